@@ -7,9 +7,9 @@ use Rattle.lcr_core.proofs.border.edge_and_offset.Statement.{statement}
 use Rattle.lcr_core.proofs.border.edge_and_offset.Tie as tie
 use Rattle.lcr_core.proofs.border.edge_and_offset.Reads as reads
 use Rattle.lcr_core.proofs.border.edge_and_offset.Lts as lts
-use Rattle.lcr_core.proofs.border.depth.Reads as depth-reads
-use Rattle.lcr_core.proofs.border.is_level.Reads as is-level-reads
-use Rattle.lcr_core.proofs.border.is_negative.Reads as is-negative-reads
+use Rattle.lcr_core.proofs.places.depth.Reads as depth-reads
+use Rattle.lcr_core.proofs.places.is_level.Reads as is-level-reads
+use Rattle.lcr_core.proofs.places.is_negative.Reads as is-negative-reads
 use Rattle.lcr_core.proofs.version.Version.side.Reads as side-reads
 
 -- src/border.rt:126:16
