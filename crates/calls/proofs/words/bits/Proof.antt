@@ -1,31 +1,24 @@
-use Rattle.calls.proofs.Signed.{negative-fits, negative-cast, negative-most, positive-cast}
+-- `calls::words::bits` meets its contract. Assumes nothing.
 use borrow.Author.Needs.{needs}
+use Rattle.calls.proofs.Signed.{negative-fits, negative-cast, negative-most, positive-cast}
 use Rattle.calls.proofs.words.bits.Statement.{statement}
 use Rattle.calls.proofs.words.bits.Tie as tie
-use Rattle.calls.proofs.words.bits.Reads as reads
-use Rattle.calls.proofs.words.bits.Lts as lts
 
--- src/words.rt:19:31
 sub-result : tie.Need-sub-result
 sub-result c = negative-fits (c .before .args .c) (c .before .fits .c) (c .if1 .taken)
 
--- src/words.rt:19:30
 cast-result : tie.Need-cast-result
 cast-result c = negative-cast (c .before .args .c) (c .before .fits .c) (c .if1 .taken)
 
--- src/words.rt:19:16
 sub-result-2 : tie.Need-sub-result-2
 sub-result-2 c = negative-most (c .before .args .c) (c .before .fits .c) (c .if1 .taken)
 
--- src/words.rt:19:9
 returns : tie.Need-returns
 returns c = search needs
 
--- src/words.rt:21:5
 cast-result-2 : tie.Need-cast-result-2
 cast-result-2 c = positive-cast (c .before .args .c) (c .before .fits .c) (c .if1 .left)
 
--- src/words.rt:17:1
 returns-2 : tie.Need-returns-2
 returns-2 c = search needs
 

@@ -1,32 +1,25 @@
+-- `calls::words::three` meets its contract. Assumes nothing.
 use native.Mathlib.Omega.{arith}
 use lib.ListN.{length-set}
 use borrow.Author.Needs.{needs}
 use Rattle.calls.proofs.words.three.Statement.{statement}
 use Rattle.calls.proofs.words.three.Tie as tie
-use Rattle.calls.proofs.words.three.Reads as reads
-use Rattle.calls.proofs.words.three.Lts as lts
 
--- src/words.rt:51:9
 returns : tie.Need-returns
 returns c = search needs
 
--- src/words.rt:53:5
 slice-write-out : tie.Need-slice-write-out
 slice-write-out c = search needs
 
--- src/words.rt:54:5
 slice-write-out-2 : tie.Need-slice-write-out-2
 slice-write-out-2 c = simp length-set (omega arith)
 
--- src/words.rt:55:5
 slice-write-out-3 : tie.Need-slice-write-out-3
 slice-write-out-3 c = search needs
 
--- src/words.rt:49:1
 same-length : tie.Need-same-length
 same-length c = search needs
 
--- src/words.rt:49:1
 returns-2 : tie.Need-returns-2
 returns-2 c = search needs
 

@@ -1,40 +1,29 @@
-use Rattle.lcr_core.proofs.DoorLaws.{version-refused, version-known, range-given, range-read, range-is, edge-at}
+-- `lcr_core::doors::edge_and_offset` meets its contract. Assumes nothing.
 use borrow.Author.Needs.{needs}
+use Rattle.lcr_core.proofs.DoorLaws.{version-refused, version-known, range-given, range-read, range-is, edge-at}
 use Rattle.lcr_core.proofs.doors.edge_and_offset.Statement.{statement}
 use Rattle.lcr_core.proofs.doors.edge_and_offset.Tie as tie
-use Rattle.lcr_core.proofs.doors.edge_and_offset.Reads as reads
-use Rattle.lcr_core.proofs.doors.edge_and_offset.Lts as lts
-use Rattle.lcr_core.proofs.border.edge_and_offset.Reads as edge-and-offset-reads
-use Rattle.lcr_core.proofs.doors.in_range.Reads as in-range-reads
-use Rattle.lcr_core.proofs.version.Version.new.Reads as new-reads
 
--- src/doors.rt:70:35
 new-requires : tie.Need-new-requires
 new-requires c κs = search needs
 
--- src/doors.rt:70:30
 enum-known-v : tie.Need-enum-known-v
 enum-known-v c = search needs
 
--- src/doors.rt:71:9
 enum-told : tie.Need-enum-told
 enum-told c = search needs
 
--- src/doors.rt:71:9
 returns : tie.Need-returns
 returns c =
     let a = c .before .before .before in
     rw (version-refused (a .args .version) _ _ (c .before .before .new .ensures) (c .enum-told .given .1))
 
--- src/doors.rt:73:8
 in-range-requires : tie.Need-in-range-requires
 in-range-requires c κs = search needs
 
--- src/doors.rt:74:12
 in-range-requires-2 : tie.Need-in-range-requires-2
 in-range-requires-2 c κs = search needs
 
--- src/doors.rt:75:17
 edge-and-offset-requires : tie.Need-edge-and-offset-requires
 edge-and-offset-requires c κs =
     let a = c .before .before .before .before .before .before .before .before in
@@ -42,7 +31,6 @@ edge-and-offset-requires c κs =
     let iy = range-given (a .args .y) _ _ (a .fits .y) (c .before .in-range2 .ensures) (c .if2 .taken) in
     (range-read (a .args .x) (a .fits .x) ix, range-read (a .args .y) (a .fits .y) iy)
 
--- src/doors.rt:76:13
 returns-2 : tie.Need-returns-2
 returns-2 c =
     let a = c .before .before .before .before .before .before .before .before .before .before in
@@ -53,7 +41,6 @@ returns-2 c =
     (edge-at (a .args .version) _ _ _ (a .args .x) (a .args .y) (k .1) (range-is _ ix) (range-is _ iy)
     (c .before .edge-and-offset .ensures .0) (c .before .edge-and-offset .ensures .1))
 
--- src/doors.rt:78:9
 returns-3 : tie.Need-returns-3
 returns-3 c =
     let a = c .before .before .before .before .before .before .before .before in
@@ -62,7 +49,6 @@ returns-3 c =
     let iy = range-given (a .args .y) _ _ (a .fits .y) (c .before .in-range2 .ensures) (c .if2 .left) in
     rw (k .0, ix, iy)
 
--- src/doors.rt:67:1
 returns-4 : tie.Need-returns-4
 returns-4 c =
     let a = c .before .before .before .before .before .before in

@@ -1,17 +1,13 @@
-use Rattle.lcr_core.proofs.Signed.{below, above, read-at}
-use mir.ValLaws.{toZ-ofZ}
+-- `lcr_core::places::is_negative` meets its contract. Assumes nothing.
 use mathlib.Core.Bool.{not}
-use mathlib.Core.Path.{_≡_, sym, ap}
+use mathlib.Core.Path.{sym, ap}
+use Rattle.lcr_core.proofs.Signed.{below, above, read-at}
 use Rattle.lcr_core.proofs.places.is_negative.Statement.{statement}
 use Rattle.lcr_core.proofs.places.is_negative.Tie as tie
-use Rattle.lcr_core.proofs.places.is_negative.Reads as reads
-use Rattle.lcr_core.proofs.places.is_negative.Lts as lts
 
--- src/border.rt:55:9
 returns : tie.Need-returns
 returns c = sym (ap not (below (c .before .args .c) (read-at (c .before .args .c) (c .before .fits .c) _ (c .if1 .taken))))
 
--- src/border.rt:51:1
 returns-2 : tie.Need-returns-2
 returns-2 c = sym (ap not (above (c .before .args .c) (read-at (c .before .args .c) (c .before .fits .c) _ (c .if1 .left))))
 

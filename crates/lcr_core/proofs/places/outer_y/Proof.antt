@@ -1,46 +1,35 @@
-use Rattle.lcr_core.proofs.Cells.{outer-y-1, outer-y-2, outer-y-3, outer-y-4}
-use Prim.Native.Nat.{_*_, _-_, _+_, _≤_, _<_}
-use mathlib.Core.Path.{_≡_, refl, sym, ap, _∙_}
+-- `lcr_core::places::outer_y` meets its contract. Assumes nothing.
+use Prim.Native.Nat.{_-_}
 use native.Mathlib.Omega.{arith}
 use borrow.Author.Needs.{needs}
+use Rattle.lcr_core.proofs.Cells.{outer-y-1, outer-y-2, outer-y-3, outer-y-4}
 use Rattle.lcr_core.proofs.places.outer_y.Statement.{statement}
 use Rattle.lcr_core.proofs.places.outer_y.Tie as tie
-use Rattle.lcr_core.proofs.places.outer_y.Reads as reads
-use Rattle.lcr_core.proofs.places.outer_y.Lts as lts
 
--- src/border.rt:212:9
 returns : tie.Need-returns
 returns c = (omega arith, outer-y-1 (c .before .args .q) (c .before .args .p) (omega arith))
 
--- src/border.rt:214:13
 mul-if2 : tie.Need-mul-if2
 mul-if2 c = search needs
 
--- src/border.rt:215:16
 sub-result : tie.Need-sub-result
 sub-result c = search needs
 
--- src/border.rt:215:9
 returns-2 : tie.Need-returns-2
 returns-2 c = (omega arith, outer-y-2 (c .before .before .args .q) (c .before .before .args .p) (omega arith) (omega arith))
 
--- src/border.rt:217:13
 mul-if3 : tie.Need-mul-if3
 mul-if3 c = search needs
 
--- src/border.rt:218:9
 returns-3 : tie.Need-returns-3
 returns-3 c = (omega arith, outer-y-3 (c .before .before .before .args .q) (c .before .before .before .args .p) (omega arith) (omega arith))
 
--- src/border.rt:220:5
 mul-result : tie.Need-mul-result
 mul-result c = search needs
 
--- src/border.rt:220:5
 sub-result-2 : tie.Need-sub-result-2
 sub-result-2 c = search needs
 
--- src/border.rt:205:1
 returns-4 : tie.Need-returns-4
 returns-4 c = (omega arith, outer-y-4 (c .before .before .before .args .q) (c .before .before .before .args .p) (omega arith))
 

@@ -1,14 +1,11 @@
+-- `replay::record::decode` meets its contract. Assumes nothing.
 use native.Mathlib.Omega.{arith}
-use lib.ListN.{length-set}
-use lib.ListN.{length}
+use lib.ListN.{length-set, length}
 use mathlib.Core.Path.{_≡_}
 use Prim.Native.Nat.{_≤_, _-_}
 use borrow.Author.Needs.{needs}
 use Rattle.replay.proofs.record.decode.Statement.{statement}
 use Rattle.replay.proofs.record.decode.Tie as tie
-use Rattle.replay.proofs.record.decode.Reads as reads
-use Rattle.replay.proofs.record.decode.Lts as lts
-use Rattle.replay.proofs.record.word.Reads as word-reads
 
 abbrev Inv-loop : tie.InvT-loop
 Inv-loop bytes words₀ k₀ words k = (k ≤ length words) × (length words ≡ length words₀)
@@ -16,43 +13,33 @@ Inv-loop bytes words₀ k₀ words k = (k ≤ length words) × (length words ≡
 abbrev μ-loop : tie.MeasureT-loop
 μ-loop bytes words₀ k₀ words k = length words - k
 
--- src/record.rt:42:5
 loop-holds : tie.Need-loop-holds Inv-loop μ-loop
 loop-holds c = search needs
 
--- src/record.rt:43:32
 mul-word : tie.Need-mul-word Inv-loop μ-loop
 mul-word c = search needs
 
--- src/record.rt:43:20
 word-requires : tie.Need-word-requires Inv-loop μ-loop
 word-requires c κs = search needs
 
--- src/record.rt:43:9
 mul-words : tie.Need-mul-words Inv-loop μ-loop
 mul-words c = search needs
 
--- src/record.rt:43:9
 slice-write-words : tie.Need-slice-write-words Inv-loop μ-loop
 slice-write-words c = search needs
 
--- src/record.rt:44:9
 add-k : tie.Need-add-k Inv-loop μ-loop
 add-k c = search needs
 
--- src/record.rt:42:5
 loop-less : tie.Need-loop-less Inv-loop μ-loop
 loop-less c = simp length-set (omega arith)
 
--- src/record.rt:42:5
 loop-again : tie.Need-loop-again Inv-loop μ-loop
 loop-again c = (simp length-set (omega arith), simp length-set (omega arith))
 
--- src/record.rt:38:1
 same-length : tie.Need-same-length Inv-loop μ-loop
 same-length c = search needs
 
--- src/record.rt:38:1
 returns : tie.Need-returns Inv-loop μ-loop
 returns c = search needs
 

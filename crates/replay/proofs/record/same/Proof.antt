@@ -1,11 +1,10 @@
+-- `replay::record::same` meets its contract. Assumes nothing.
 use lib.ListN.{length}
 use mathlib.Core.Path.{_≡_}
-use Prim.Native.Nat.{_≤_, _-_}
+use Prim.Native.Nat.{_-_}
 use borrow.Author.Needs.{needs}
 use Rattle.replay.proofs.record.same.Statement.{statement}
 use Rattle.replay.proofs.record.same.Tie as tie
-use Rattle.replay.proofs.record.same.Reads as reads
-use Rattle.replay.proofs.record.same.Lts as lts
 
 abbrev Inv-loop : tie.InvT-loop
 Inv-loop a b k₀ k = length a ≡ length b
@@ -13,47 +12,36 @@ Inv-loop a b k₀ k = length a ≡ length b
 abbrev μ-loop : tie.MeasureT-loop
 μ-loop a b k₀ k = length a - k
 
--- src/record.rt:51:9
 returns : tie.Need-returns Inv-loop μ-loop
 returns c = search needs
 
--- src/record.rt:54:5
 loop-holds : tie.Need-loop-holds Inv-loop μ-loop
 loop-holds c = search needs
 
--- src/record.rt:55:12
 mul-if2 : tie.Need-mul-if2 Inv-loop μ-loop
 mul-if2 c = search needs
 
--- src/record.rt:55:12
 shared-slice-read-if2 : tie.Need-shared-slice-read-if2 Inv-loop μ-loop
 shared-slice-read-if2 c = search needs
 
--- src/record.rt:55:20
 mul-if2-2 : tie.Need-mul-if2-2 Inv-loop μ-loop
 mul-if2-2 c = search needs
 
--- src/record.rt:55:20
 shared-slice-read-if2-2 : tie.Need-shared-slice-read-if2-2 Inv-loop μ-loop
 shared-slice-read-if2-2 c = search needs
 
--- src/record.rt:56:13
 returns-2 : tie.Need-returns-2 Inv-loop μ-loop
 returns-2 c = search needs
 
--- src/record.rt:58:9
 add-k : tie.Need-add-k Inv-loop μ-loop
 add-k c = search needs
 
--- src/record.rt:54:5
 loop-less : tie.Need-loop-less Inv-loop μ-loop
 loop-less c = search needs
 
--- src/record.rt:54:5
 loop-again : tie.Need-loop-again Inv-loop μ-loop
 loop-again c = search needs
 
--- src/record.rt:49:1
 returns-3 : tie.Need-returns-3 Inv-loop μ-loop
 returns-3 c = search needs
 

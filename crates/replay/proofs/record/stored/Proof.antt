@@ -1,65 +1,48 @@
+-- `replay::record::stored` meets its contract. Assumes nothing.
 use native.Mathlib.Omega.{arith}
 use mathlib.Core.Path.{_≡_, sym, _∙_}
 use lib.ListN.{length, take}
-use Rattle.replay.proofs.Parts.{front, refilled}
 use borrow.Author.Needs.{needs}
+use Rattle.replay.proofs.Parts.{front, refilled}
 use Rattle.replay.proofs.record.stored.Statement.{statement}
 use Rattle.replay.proofs.record.stored.Tie as tie
-use Rattle.replay.proofs.record.stored.Reads as reads
-use Rattle.replay.proofs.record.stored.Lts as lts
-use Rattle.replay.proofs.record.made.Reads as made-reads
-use Rattle.replay.proofs.record.read.Reads as read-reads
-use Rattle.replay.proofs.record.room.Reads as room-reads
 
--- src/record.rt:103:9
 returns : tie.Need-returns
 returns c = search needs
 
--- src/record.rt:106:9
 returns-2 : tie.Need-returns-2
 returns-2 c = search needs
 
--- src/record.rt:108:20
 room-requires : tie.Need-room-requires
 room-requires c κs = search needs
 
--- src/record.rt:109:18
 array-borrow-prefix-args : tie.Need-array-borrow-prefix-args
 array-borrow-prefix-args c = search needs
 
--- src/record.rt:109:18
 slice-aggregate-read : tie.Need-slice-aggregate-read
 slice-aggregate-read c = front (c .before .before .before .before .args .n) (c .before .room .result) (omega (arith, c .before .room .ensures))
 
--- src/record.rt:109:9
 read-requires : tie.Need-read-requires
 read-requires c κs = search needs
 
--- src/record.rt:110:9
 returns-3 : tie.Need-returns-3
 returns-3 c = search needs
 
--- src/record.rt:112:22
 room-requires-2 : tie.Need-room-requires-2
 room-requires-2 c κs = search needs
 
--- src/record.rt:113:18
 array-borrow-prefix-wanted : tie.Need-array-borrow-prefix-wanted
 array-borrow-prefix-wanted c = search needs
 
--- src/record.rt:113:18
 slice-aggregate-read-2 : tie.Need-slice-aggregate-read-2
 slice-aggregate-read-2 c = front (c .before .before .before .before .before .before .before .before .before .args .m) (c .before .room2 .result) (omega (arith, c .before .room2 .ensures))
 
--- src/record.rt:113:9
 read-requires-2 : tie.Need-read-requires-2
 read-requires-2 c κs = search needs
 
--- src/record.rt:114:9
 returns-4 : tie.Need-returns-4
 returns-4 c = search needs
 
--- src/record.rt:116:16
 array-share-prefix-args : tie.Need-array-share-prefix-args
 array-share-prefix-args c =
     let n = c .before .before .before .before .before .before .before .before .before .before .before .before .args .n in
@@ -67,7 +50,6 @@ array-share-prefix-args c =
     let k : length (c .before .before .before .before .before .before .before .read .last .1 .0) ≡ length (take n b) = c .before .before .before .before .before .before .before .read .kept .1 .0 in
     refilled n (c .before .before .before .before .before .before .before .read .last .1 .0) b (front n b (omega (arith, c .before .before .before .before .before .before .before .before .before .room .ensures)) ∙ sym k)
 
--- src/record.rt:116:16
 slice-aggregate-made : tie.Need-slice-aggregate-made
 slice-aggregate-made c =
     let n = c .before .before .before .before .before .before .before .before .before .before .before .before .before .args .n in
@@ -75,7 +57,6 @@ slice-aggregate-made c =
     let k : length (c .before .before .before .before .before .before .before .before .read .last .1 .0) ≡ length (take n b) = c .before .before .before .before .before .before .before .before .read .kept .1 .0 in
     front n _ (refilled n (c .before .before .before .before .before .before .before .before .read .last .1 .0) b (front n b (omega (arith, c .before .before .before .before .before .before .before .before .before .before .room .ensures)) ∙ sym k))
 
--- src/record.rt:116:28
 array-share-prefix-wanted : tie.Need-array-share-prefix-wanted
 array-share-prefix-wanted c =
     let m = c .before .before .before .before .before .before .before .before .before .before .before .before .before .args .m in
@@ -83,7 +64,6 @@ array-share-prefix-wanted c =
     let k : length (c .before .before .before .read2 .last .1 .0) ≡ length (take m b) = c .before .before .before .read2 .kept .1 .0 in
     refilled m (c .before .before .before .read2 .last .1 .0) b (front m b (omega (arith, c .before .before .before .before .before .room2 .ensures)) ∙ sym k)
 
--- src/record.rt:116:28
 slice-aggregate-made-2 : tie.Need-slice-aggregate-made-2
 slice-aggregate-made-2 c =
     let m = c .before .before .before .before .before .before .before .before .before .before .before .before .before .before .args .m in
@@ -91,11 +71,9 @@ slice-aggregate-made-2 c =
     let k : length (c .before .before .before .before .read2 .last .1 .0) ≡ length (take m b) = c .before .before .before .before .read2 .kept .1 .0 in
     front m _ (refilled m (c .before .before .before .before .read2 .last .1 .0) b (front m b (omega (arith, c .before .before .before .before .before .before .room2 .ensures)) ∙ sym k))
 
--- src/record.rt:116:5
 made-requires : tie.Need-made-requires
 made-requires c κs = search needs
 
--- src/record.rt:101:1
 returns-5 : tie.Need-returns-5
 returns-5 c = search needs
 
