@@ -1,5 +1,6 @@
-// Entries of the finder called by number, words in and words out, so that one program replays stored
-// calls and one C function compares at scale. `kind` says which entry: each hundred is an area.
+// Entries of the finder called by number, words in and words out, so that one program replays
+// stored calls and one C function compares at scale. `kind` says which entry: each hundred is an
+// area.
 //
 // A word is a u32: an f32 is its bits, an f64 its low and its high half, an i32 its bits, bytes
 // stand four to a word, lowest first. The answer's first word is 0, or the refusal's number alone.

@@ -15,6 +15,7 @@ use lib.Signed.{ltZ, leZ, mag}
 use mir.Syntax.{w32}
 use mir.Val.{SFits, toZ, ofZ}
 use mir.ValLaws.{toZ-ofZ}
+use Rattle.laws.proofs.Bools.{and-left, and-right}
 use Rattle.lcr_core.specs.Version.{IsVersion, isVersion, versionAnswer, pickVersion, sideOf}
 use Rattle.lcr_core.specs.Border.{InRange, shellOf, edgeOf, offsetOf, placeOf}
 use Rattle.lcr_core.proofs.Signed.{read}
@@ -32,16 +33,9 @@ refuse-yes b refusal answer e = rw e
 pub refuse-no : {A : Type 0} (b : Bool) (refusal answer : A) → b ≡ false → refusal ≡ orRefuse b refusal answer
 refuse-no b refusal answer e = rw e
 
-left : (a b : Bool) → a && b ≡ true → a ≡ true
-left true b e = refl
-left false b e = e
-
-right : (a b : Bool) → a && b ≡ true → b ≡ true
-right true b e = e
-right false b e = absurd (subst T (sym e) tt)
-
 pub is-version : (v : ℕ) → isVersion v ≡ true → IsVersion v
-is-version v e = record { least = leb-true 1 v (left (leb 1 v) (leb v 64) e); greatest = leb-true v 64 (right (leb 1 v) (leb v 64) e) }
+is-version v e = record
+    { least = leb-true 1 v (and-left (leb 1 v) (leb v 64) e); greatest = leb-true v 64 (and-right (leb 1 v) (leb v 64) e) }
 
 clash : {A : Type 0} (v n : ℕ) (w : Version) → _≡_ {A = VersionAnswer} (Known w) (Refused n) → A
 clash v n w e = absurd (let z : _≡_ {A = ℕ} 0 1 = cc in never z)

@@ -161,7 +161,8 @@ module _ (v i : ℕ) (layer : i ≤ 1) where
   bottom x l h =
       let o = out-high v i layer in
       let w = out-within v i x layer l h in
-      let e = edge-bottom (sideOf v) (coordinate x) (coordinate (quarterOf v - i)) (level-yes v x (quarterOf v - i) (omega arith) (omega arith))
+      let e = edge-bottom (sideOf v) (coordinate x) (coordinate (quarterOf v - i))
+      (level-yes v x (quarterOf v - i) (omega arith) (omega arith))
       (sign-high (quarterOf v - i) (omega arith)) in
       place-on v x (quarterOf v - i) 2 x (3 - i) (omega arith) (omega arith) (right-most _ _ _ w o) (e .0) (e .1) (omega arith)
       ∙ at v (3 * quarterOf v - x) _ refl (omega arith)

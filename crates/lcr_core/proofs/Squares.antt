@@ -54,7 +54,8 @@ on-square v p h = go (leb p q) refl (leb p (2 * q)) refl (leb p (3 * q)) refl
           is = outer-by v p (quarterOf v) (p - quarterOf v) h (outer-x-2 (quarterOf v) p g l) (outer-y-2 (quarterOf v) p g l);
           wide = omega arith;
           high = omega arith;
-          edge = or-left (eqb (quarterOf v) 0 || eqb (quarterOf v) (quarterOf v)) (eqb (p - quarterOf v) 0 || eqb (p - quarterOf v) (quarterOf v))
+          edge = or-left (eqb (quarterOf v) 0 || eqb (quarterOf v) (quarterOf v))
+              (eqb (p - quarterOf v) 0 || eqb (p - quarterOf v) (quarterOf v))
               (or-right (eqb (quarterOf v) 0) (eqb (quarterOf v) (quarterOf v)) (eq-eqb (quarterOf v) (quarterOf v) refl));
         }
     go false ea false eb true ec =

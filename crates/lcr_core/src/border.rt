@@ -86,7 +86,8 @@ fn fill_marks(ring: &[u8], start: usize, n: usize, out: &mut [bool])
     }
 }
 
-// All marks of a version, first in `out`. The table is brought in once: each use of a constant array copies it.
+// All marks of a version, first in `out`. The table is brought in once: each use of a constant
+// array copies it.
 pub fn sequence(version: Version, out: &mut [bool])
     requires { ⌜ IsVersion (version .0) ⌝ }
     requires { ⌜ positionsOf (version .0) ≤ length (now out) ⌝ }

@@ -1,5 +1,5 @@
-// Theorems on the ring's table and cells, each a function with an empty body, so that the gate counts
-// it.
+// Theorems on the ring's table and cells, each a function with an empty body, so that the gate
+// counts it.
 ghost use Rattle.lcr_core.specs.Claims.{TableRows, CellsRound, EveryVersion};
 
 // Rows of the table: where each starts and how long it is, for every version.

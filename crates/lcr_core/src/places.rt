@@ -1,5 +1,5 @@
-// Cells of the ring as places: a coordinate counted from the ring's outer edge, -3, so that the outer
-// square's places run from 0 to q, a quarter of the positions. The signed steps stand here.
+// Cells of the ring as places: a coordinate counted from the ring's outer edge, -3, so that the
+// outer square's places run from 0 to q, a quarter of the positions. The signed steps stand here.
 ghost use mathlib.Core.Path.{_≡_};
 ghost use mathlib.Core.Bool.{not, _&&_};
 ghost use lib.Dec.{leb, ltb};

@@ -1,4 +1,5 @@
--- `replay::replay` meets its contract. Assumes nothing.
+-- `replay::replay` meets its contract. The loop's invariant: no more answers differ than calls were made. The measure is what is left of a
+-- million calls. Assumes nothing.
 use Prim.Native.Nat.{_≤_, _-_}
 use borrow.Author.Needs.{needs}
 use Rattle.replay.proofs.replay.Statement.{statement}

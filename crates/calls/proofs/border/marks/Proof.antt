@@ -1,4 +1,4 @@
--- `calls::border::marks` meets its contract. Assumes nothing.
+-- `calls::border::marks` meets its contract. The loop's invariant: k is at most 32. The measure is k. Assumes nothing.
 use Prim.Native.Nat.{_≤_}
 use borrow.Author.Needs.{needs}
 use Rattle.calls.proofs.border.marks.Statement.{statement}

@@ -34,8 +34,10 @@ edge-and-offset-requires c κs =
 returns-2 : tie.Need-returns-2
 returns-2 c =
     let a = c .before .before .before .before .before .before .before .before .before .before in
-    let k = version-known (a .args .version) _ _ (c .before .before .before .before .before .before .before .before .before .new .ensures) (c .before .before .before .before .before .before .before .v .given .1) in
-    let ix = range-given (a .args .x) _ _ (a .fits .x) (c .before .before .before .before .before .in-range .ensures) (c .before .before .before .before .if1 .taken) in
+    let k = version-known (a .args .version) _ _ (c .before .before .before .before .before .before .before .before .before .new .ensures)
+    (c .before .before .before .before .before .before .before .v .given .1) in
+    let ix = range-given (a .args .x) _ _ (a .fits .x) (c .before .before .before .before .before .in-range .ensures)
+    (c .before .before .before .before .if1 .taken) in
     let iy = range-given (a .args .y) _ _ (a .fits .y) (c .before .before .before .in-range2 .ensures) (c .before .before .if2 .taken) in
     rw (k .0, ix, iy)
     (edge-at (a .args .version) _ _ _ (a .args .x) (a .args .y) (k .1) (range-is _ ix) (range-is _ iy)
@@ -44,7 +46,8 @@ returns-2 c =
 returns-3 : tie.Need-returns-3
 returns-3 c =
     let a = c .before .before .before .before .before .before .before .before in
-    let k = version-known (a .args .version) _ _ (c .before .before .before .before .before .before .before .new .ensures) (c .before .before .before .before .before .v .given .1) in
+    let k = version-known (a .args .version) _ _ (c .before .before .before .before .before .before .before .new .ensures)
+    (c .before .before .before .before .before .v .given .1) in
     let ix = range-given (a .args .x) _ _ (a .fits .x) (c .before .before .before .in-range .ensures) (c .before .before .if1 .taken) in
     let iy = range-given (a .args .y) _ _ (a .fits .y) (c .before .in-range2 .ensures) (c .if2 .left) in
     rw (k .0, ix, iy)
@@ -52,7 +55,8 @@ returns-3 c =
 returns-4 : tie.Need-returns-4
 returns-4 c =
     let a = c .before .before .before .before .before .before in
-    let k = version-known (a .args .version) _ _ (c .before .before .before .before .before .new .ensures) (c .before .before .before .v .given .1) in
+    let k = version-known (a .args .version) _ _ (c .before .before .before .before .before .new .ensures)
+    (c .before .before .before .v .given .1) in
     let ix = range-given (a .args .x) _ _ (a .fits .x) (c .before .in-range .ensures) (c .if1 .left) in
     rw (k .0, ix)
 

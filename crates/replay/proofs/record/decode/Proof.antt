@@ -1,4 +1,5 @@
--- `replay::record::decode` meets its contract. Assumes nothing.
+-- `replay::record::decode` meets its contract. The loop's invariant: k is at most the number of words, which stays. The measure is how many
+-- words are left. Assumes nothing.
 use native.Mathlib.Omega.{arith}
 use lib.ListN.{length-set, length}
 use mathlib.Core.Path.{_≡_}

@@ -23,7 +23,11 @@ array-share-prefix-out : tie.Need-array-share-prefix-out
 array-share-prefix-out c = search needs
 
 slice-aggregate-same : tie.Need-slice-aggregate-same
-slice-aggregate-same c = let k : length (c .before .before .before .call .last .1 .1 .0) ≡ length (c .before .before .before .before .before .room .result) = c .before .before .before .call .kept .1 .1 .0 in front (c .before .before .before .call .result) (c .before .before .before .call .last .1 .1 .0) (omega (arith, c .before .before .before .before .before .room .ensures))
+slice-aggregate-same c =
+    let k : length (c .before .before .before .call .last .1 .1 .0) ≡ length (c .before .before .before .before .before .room .result) =
+    c .before .before .before .call .kept .1 .1 .0 in
+    front (c .before .before .before .call .result) (c .before .before .before .call .last .1 .1 .0)
+    (omega (arith, c .before .before .before .before .before .room .ensures))
 
 same-requires : tie.Need-same-requires
 same-requires c κs = search needs

@@ -21,7 +21,9 @@ array-borrow-prefix-bytes : tie.Need-array-borrow-prefix-bytes
 array-borrow-prefix-bytes c = search needs
 
 slice-aggregate-read-full : tie.Need-slice-aggregate-read-full
-slice-aggregate-read-full c = front (4 * length (c .before .before .before .before .args .words .now)) (c .before .large-buffer .result) (omega (arith, c .before .large-buffer .ensures))
+slice-aggregate-read-full c =
+    front (4 * length (c .before .before .before .before .args .words .now)) (c .before .large-buffer .result)
+    (omega (arith, c .before .large-buffer .ensures))
 
 read-full-requires : tie.Need-read-full-requires
 read-full-requires c κs = search needs
@@ -34,14 +36,17 @@ array-share-prefix-bytes c =
     let n = 4 * length (c .before .before .before .before .before .before .before .args .words .now) in
     let b = c .before .before .before .before .large-buffer .result in
     let k : length (c .before .before .read-full .last .1 .0) ≡ length (take n b) = c .before .before .read-full .kept .1 .0 in
-    refilled n (c .before .before .read-full .last .1 .0) b (front n b (omega (arith, c .before .before .before .before .large-buffer .ensures)) ∙ sym k)
+    refilled n (c .before .before .read-full .last .1 .0) b
+    (front n b (omega (arith, c .before .before .before .before .large-buffer .ensures)) ∙ sym k)
 
 slice-aggregate-decode : tie.Need-slice-aggregate-decode
 slice-aggregate-decode c =
     let n = 4 * length (c .before .before .before .before .before .before .before .before .args .words .now) in
     let b = c .before .before .before .before .before .large-buffer .result in
-    let k : length (c .before .before .before .read-full .last .1 .0) ≡ length (take n b) = c .before .before .before .read-full .kept .1 .0 in
-    front n _ (refilled n (c .before .before .before .read-full .last .1 .0) b (front n b (omega (arith, c .before .before .before .before .before .large-buffer .ensures)) ∙ sym k))
+    let k : length (c .before .before .before .read-full .last .1 .0) ≡ length (take n b) =
+    c .before .before .before .read-full .kept .1 .0 in
+    front n _ (refilled n (c .before .before .before .read-full .last .1 .0) b
+    (front n b (omega (arith, c .before .before .before .before .before .large-buffer .ensures)) ∙ sym k))
 
 decode-requires : tie.Need-decode-requires
 decode-requires c κs = search needs

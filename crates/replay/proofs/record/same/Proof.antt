@@ -1,4 +1,5 @@
--- `replay::record::same` meets its contract. Assumes nothing.
+-- `replay::record::same` meets its contract. The loop's invariant: the lists are equally long. The measure is how many words are left.
+-- Assumes nothing.
 use lib.ListN.{length}
 use mathlib.Core.Path.{_≡_}
 use Prim.Native.Nat.{_-_}

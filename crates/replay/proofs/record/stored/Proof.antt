@@ -20,7 +20,8 @@ array-borrow-prefix-args : tie.Need-array-borrow-prefix-args
 array-borrow-prefix-args c = search needs
 
 slice-aggregate-read : tie.Need-slice-aggregate-read
-slice-aggregate-read c = front (c .before .before .before .before .args .n) (c .before .room .result) (omega (arith, c .before .room .ensures))
+slice-aggregate-read c =
+    front (c .before .before .before .before .args .n) (c .before .room .result) (omega (arith, c .before .room .ensures))
 
 read-requires : tie.Need-read-requires
 read-requires c κs = search needs
@@ -35,7 +36,9 @@ array-borrow-prefix-wanted : tie.Need-array-borrow-prefix-wanted
 array-borrow-prefix-wanted c = search needs
 
 slice-aggregate-read-2 : tie.Need-slice-aggregate-read-2
-slice-aggregate-read-2 c = front (c .before .before .before .before .before .before .before .before .before .args .m) (c .before .room2 .result) (omega (arith, c .before .room2 .ensures))
+slice-aggregate-read-2 c =
+    front (c .before .before .before .before .before .before .before .before .before .args .m) (c .before .room2 .result)
+    (omega (arith, c .before .room2 .ensures))
 
 read-requires-2 : tie.Need-read-requires-2
 read-requires-2 c κs = search needs
@@ -47,29 +50,37 @@ array-share-prefix-args : tie.Need-array-share-prefix-args
 array-share-prefix-args c =
     let n = c .before .before .before .before .before .before .before .before .before .before .before .before .args .n in
     let b = c .before .before .before .before .before .before .before .before .before .room .result in
-    let k : length (c .before .before .before .before .before .before .before .read .last .1 .0) ≡ length (take n b) = c .before .before .before .before .before .before .before .read .kept .1 .0 in
-    refilled n (c .before .before .before .before .before .before .before .read .last .1 .0) b (front n b (omega (arith, c .before .before .before .before .before .before .before .before .before .room .ensures)) ∙ sym k)
+    let k : length (c .before .before .before .before .before .before .before .read .last .1 .0) ≡ length (take n b) =
+    c .before .before .before .before .before .before .before .read .kept .1 .0 in
+    refilled n (c .before .before .before .before .before .before .before .read .last .1 .0) b
+    (front n b (omega (arith, c .before .before .before .before .before .before .before .before .before .room .ensures)) ∙ sym k)
 
 slice-aggregate-made : tie.Need-slice-aggregate-made
 slice-aggregate-made c =
     let n = c .before .before .before .before .before .before .before .before .before .before .before .before .before .args .n in
     let b = c .before .before .before .before .before .before .before .before .before .before .room .result in
-    let k : length (c .before .before .before .before .before .before .before .before .read .last .1 .0) ≡ length (take n b) = c .before .before .before .before .before .before .before .before .read .kept .1 .0 in
-    front n _ (refilled n (c .before .before .before .before .before .before .before .before .read .last .1 .0) b (front n b (omega (arith, c .before .before .before .before .before .before .before .before .before .before .room .ensures)) ∙ sym k))
+    let k : length (c .before .before .before .before .before .before .before .before .read .last .1 .0) ≡ length (take n b) =
+    c .before .before .before .before .before .before .before .before .read .kept .1 .0 in
+    front n _ (refilled n (c .before .before .before .before .before .before .before .before .read .last .1 .0) b
+    (front n b (omega (arith, c .before .before .before .before .before .before .before .before .before .before .room .ensures))
+    ∙ sym k))
 
 array-share-prefix-wanted : tie.Need-array-share-prefix-wanted
 array-share-prefix-wanted c =
     let m = c .before .before .before .before .before .before .before .before .before .before .before .before .before .args .m in
     let b = c .before .before .before .before .before .room2 .result in
     let k : length (c .before .before .before .read2 .last .1 .0) ≡ length (take m b) = c .before .before .before .read2 .kept .1 .0 in
-    refilled m (c .before .before .before .read2 .last .1 .0) b (front m b (omega (arith, c .before .before .before .before .before .room2 .ensures)) ∙ sym k)
+    refilled m (c .before .before .before .read2 .last .1 .0) b
+    (front m b (omega (arith, c .before .before .before .before .before .room2 .ensures)) ∙ sym k)
 
 slice-aggregate-made-2 : tie.Need-slice-aggregate-made-2
 slice-aggregate-made-2 c =
     let m = c .before .before .before .before .before .before .before .before .before .before .before .before .before .before .args .m in
     let b = c .before .before .before .before .before .before .room2 .result in
-    let k : length (c .before .before .before .before .read2 .last .1 .0) ≡ length (take m b) = c .before .before .before .before .read2 .kept .1 .0 in
-    front m _ (refilled m (c .before .before .before .before .read2 .last .1 .0) b (front m b (omega (arith, c .before .before .before .before .before .before .room2 .ensures)) ∙ sym k))
+    let k : length (c .before .before .before .before .read2 .last .1 .0) ≡ length (take m b) =
+    c .before .before .before .before .read2 .kept .1 .0 in
+    front m _ (refilled m (c .before .before .before .before .read2 .last .1 .0) b
+    (front m b (omega (arith, c .before .before .before .before .before .before .room2 .ensures)) ∙ sym k))
 
 made-requires : tie.Need-made-requires
 made-requires c κs = search needs
