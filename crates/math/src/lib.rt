@@ -1,0 +1,2 @@
+// Equations and medians, as math.rs has them.
+pub mod elimination;
