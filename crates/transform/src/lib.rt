@@ -1,7 +1,9 @@
 // The transform from module space to pixels, as transform.rs has it: `from_quad`, `with_radial`,
 // `apply`. Every f32 is taken, and none has a `requires`.
+mod corners;
+
 ghost use mathlib.Core.Path.{_≡_};
-ghost use Rattle.transform.specs.Mapping.{matrix, numbers, homography, fromQuad};
+ghost use Rattle.transform.specs.Mapping.{homography, fromQuad};
 ghost use Rattle.transform.specs.Mapping.{withRadial, guarded, bent, throughLens, applied};
 
 // Eight coefficients and three lens numbers, all f64. The pixel of (u, v) is
@@ -40,117 +42,6 @@ pub struct Offset {
     pub y: f64,
 }
 
-// x as an f64, which holds every f32.
-fn wide(x: f32) -> f64
-    ensures { λ r. ⌜ r ≡ x ⌝ }
-{
-    std::num::f32_to_f64_with_nan(x)
-}
-
-// Four corners' numbers as f64.
-fn wide8(s: [f32; 8]) -> [f64; 8]
-    ensures { λ r. ⌜ r ≡ numbers s ⌝ }
-{
-    [
-        wide(s[0]),
-        wide(s[1]),
-        wide(s[2]),
-        wide(s[3]),
-        wide(s[4]),
-        wide(s[5]),
-        wide(s[6]),
-        wide(s[7]),
-    ]
-}
-
-// The matrix of the eight equations of four corners.
-fn equations_of(s: [f64; 8], d: [f64; 8]) -> [f64; 64]
-    ensures { λ r. ⌜ r ≡ matrix s d ⌝ }
-{
-    let u0 = s[0];
-    let v0 = s[1];
-    let u1 = s[2];
-    let v1 = s[3];
-    let u2 = s[4];
-    let v2 = s[5];
-    let u3 = s[6];
-    let v3 = s[7];
-    let x0 = -d[0];
-    let y0 = -d[1];
-    let x1 = -d[2];
-    let y1 = -d[3];
-    let x2 = -d[4];
-    let y2 = -d[5];
-    let x3 = -d[6];
-    let y3 = -d[7];
-    [
-        u0,
-        v0,
-        1.0,
-        0.0,
-        0.0,
-        0.0,
-        x0 * u0,
-        x0 * v0,
-        0.0,
-        0.0,
-        0.0,
-        u0,
-        v0,
-        1.0,
-        y0 * u0,
-        y0 * v0,
-        u1,
-        v1,
-        1.0,
-        0.0,
-        0.0,
-        0.0,
-        x1 * u1,
-        x1 * v1,
-        0.0,
-        0.0,
-        0.0,
-        u1,
-        v1,
-        1.0,
-        y1 * u1,
-        y1 * v1,
-        u2,
-        v2,
-        1.0,
-        0.0,
-        0.0,
-        0.0,
-        x2 * u2,
-        x2 * v2,
-        0.0,
-        0.0,
-        0.0,
-        u2,
-        v2,
-        1.0,
-        y2 * u2,
-        y2 * v2,
-        u3,
-        v3,
-        1.0,
-        0.0,
-        0.0,
-        0.0,
-        x3 * u3,
-        x3 * v3,
-        0.0,
-        0.0,
-        0.0,
-        u3,
-        v3,
-        1.0,
-        y3 * u3,
-        y3 * v3,
-    ]
-}
-
 // Eight coefficients without a lens.
 fn coefficients(x: [f64; 8]) -> Transform
     ensures { λ r. ⌜ r ≡ homography x ⌝ }
@@ -174,9 +65,9 @@ fn coefficients(x: [f64; 8]) -> Transform
 pub fn from_quad(src: [f32; 8], dst: [f32; 8]) -> Mapped
     ensures { λ r. ⌜ r ≡ fromQuad src dst ⌝ }
 {
-    let s = wide8(src);
-    let mut b = wide8(dst);
-    let mut a = equations_of(s, b);
+    let s = corners::wide8(src);
+    let mut b = corners::wide8(dst);
+    let mut a = corners::equations_of(s, b);
     let h = math::equations::run(&mut a, &mut b, 8);
     let f = h.found;
     let x = h.x;
@@ -235,9 +126,9 @@ impl Transform {
             m5: self.m5,
             m6: self.m6,
             m7: self.m7,
-            cx: wide(cx),
-            cy: wide(cy),
-            kappa: wide(kappa),
+            cx: corners::wide(cx),
+            cy: corners::wide(cy),
+            kappa: corners::wide(kappa),
         }
     }
 
@@ -245,8 +136,8 @@ impl Transform {
     pub fn apply(self, u: f32, v: f32) -> Pixel
         ensures { λ r. ⌜ r ≡ applied self u v ⌝ }
     {
-        let p = wide(u);
-        let q = wide(v);
+        let p = corners::wide(u);
+        let q = corners::wide(v);
         let w = guard(self.m6 * p + self.m7 * q + 1.0);
         let x = (self.m0 * p + self.m1 * q + self.m2) / w;
         let y = (self.m3 * p + self.m4 * q + self.m5) / w;

@@ -1,8 +1,8 @@
 use Rattle.transform.proofs.Parts.{cons-cong}
 use mathlib.Core.Path.{refl}
 use borrow.Author.Needs.{needs}
-use Rattle.transform.proofs.wide8.Statement.{statement}
-use Rattle.transform.proofs.wide8.Tie as tie
+use Rattle.transform.proofs.corners.wide8.Statement.{statement}
+use Rattle.transform.proofs.corners.wide8.Tie as tie
 
 array-read-wide : tie.Need-array-read-wide
 array-read-wide c = search needs

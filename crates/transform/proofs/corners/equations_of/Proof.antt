@@ -1,8 +1,8 @@
 use Rattle.transform.specs.Mapping.{matrix}
 use mathlib.Core.Path.{refl}
 use borrow.Author.Needs.{needs}
-use Rattle.transform.proofs.equations_of.Statement.{statement}
-use Rattle.transform.proofs.equations_of.Tie as tie
+use Rattle.transform.proofs.corners.equations_of.Statement.{statement}
+use Rattle.transform.proofs.corners.equations_of.Tie as tie
 
 array-read-u0 : tie.Need-array-read-u0
 array-read-u0 c = search needs
