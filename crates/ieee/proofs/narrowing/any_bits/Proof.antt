@@ -5,8 +5,8 @@ use lib.Ieee.Nearest.{closest}
 use Rattle.ieee.specs.Patterns.{mant64, dropped, cut64}
 use Rattle.ieee.proofs.Narrows.{assembled}
 use borrow.Author.Needs.{needs}
-use Rattle.ieee.proofs.narrowing.finite_bits.Statement.{statement}
-use Rattle.ieee.proofs.narrowing.finite_bits.Tie as tie
+use Rattle.ieee.proofs.narrowing.any_bits.Statement.{statement}
+use Rattle.ieee.proofs.narrowing.any_bits.Tie as tie
 
 facts : (c : tie.After-kept)
     → (c .before .before .above .result ≡ dropped (c .before .before .before .before .args .b))
@@ -48,8 +48,8 @@ returns c = let z = facts (c .before) in omega arith
 returns-2 : tie.Need-returns-2
 returns-2 c = let z = facts (c .before) in omega arith
 
-pub finite-bits-spec : {M : Type 1} → statement M
-finite-bits-spec =
+pub any-bits-spec : {M : Type 1} → statement M
+any-bits-spec =
     tie.close
     (tie.spec
     place64-requires
