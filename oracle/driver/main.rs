@@ -9,6 +9,7 @@ mod fuzz;
 mod ieee;
 mod list;
 mod math;
+mod numbers_bench;
 mod pic;
 mod transform;
 use std::io::{Read, Write};
@@ -37,6 +38,7 @@ fn main() {
         Some("attempt-verbose") => say(att::verbose(&att::decode(&stdin()))),
         Some("calc") => calc::run(),
         Some("fuzz") => fuzz::run(num(2, 1), num(3, 10000)),
+        Some("bench") if a.get(2).is_some_and(|s| s == "numbers") => numbers_bench::run(),
         Some("bench") => bench::run(),
         Some("vectors") => areas(&a[2]).into_iter().for_each(calls::vectors),
         // compare AREA|all SEED SECONDS [MOST]: the seconds are shared by the areas
