@@ -1,0 +1,4 @@
+pub mod Points
+pub mod Hull
+pub mod Quad
+pub mod Claims
