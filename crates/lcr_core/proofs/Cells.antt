@@ -16,7 +16,25 @@ use lib.Signed.{nonNeg}
 use mir.Syntax.{w32}
 use mir.Val.{toZ, ofZ}
 use Rattle.lcr_core.specs.Version.{sideOf, quarterOf, positionsOf}
-use Rattle.lcr_core.specs.Border.{InRange, depthOf, shellOf, coordinate, alongOf, isLevel, edgeOf, offsetOf, onEdge, placeOf, pickPlace, outerX, outerY, inward, outerCell, innerCell, cellAt}
+use Rattle.lcr_core.specs.Border.{
+  InRange,
+  depthOf,
+  shellOf,
+  coordinate,
+  alongOf,
+  isLevel,
+  edgeOf,
+  offsetOf,
+  onEdge,
+  placeOf,
+  pickPlace,
+  outerX,
+  outerY,
+  inward,
+  outerCell,
+  innerCell,
+  cellAt,
+}
 use Rattle.lcr_core.specs.declared.border.Place.{Place}
 use Rattle.lcr_core.specs.declared.border.Place.the-variants.{At, Outside}
 use Rattle.lcr_core.specs.declared.border.Cell.{Cell}
@@ -101,7 +119,8 @@ edge-right s x y e n = (rw (e, n), rw e)
 
 pub level-is : (s : ℕ) (x y : ℤ) (dx dy : ℕ) (r b : Bool) → dx ≡ depthOf s x → dy ≡ depthOf s y
     → r ≡ (ltb 0 dy && leb dx dy) → r ≡ b → isLevel s x y ≡ b
-level-is s x y dx dy r b ex ey er e = sym (ap (λ (n : ℕ). ltb 0 n && leb (depthOf s x) n) ey) ∙ sym (ap (λ (n : ℕ). ltb 0 dy && leb n dy) ex) ∙ sym er ∙ e
+level-is s x y dx dy r b ex ey er e =
+    sym (ap (λ (n : ℕ). ltb 0 n && leb (depthOf s x) n) ey) ∙ sym (ap (λ (n : ℕ). ltb 0 dy && leb n dy) ex) ∙ sym er ∙ e
 
 pub sign-is : (z : ℤ) (r b : Bool) → r ≡ not (nonNeg z) → r ≡ b → nonNeg z ≡ not b
 sign-is z r b er e = sym (twice (nonNeg z)) ∙ ap not (sym er ∙ e)
@@ -155,7 +174,9 @@ pub along-asks : (s : ℕ) (x y o : ℤ) (side : ℕ) → side ≡ s → o ≡ o
     → InRange (toZ w32 (ofZ w32 o)) × (depthOf side (toZ w32 (ofZ w32 o)) ≤ 3)
 along-asks s x y o side es eo hx hy h =
     let r : InRange o = subst InRange (sym eo) (offset-range s x y hx hy) in
-    let d : depthOf side o ≤ 3 = subst (λ (z : ℤ). depthOf side z ≤ 3) (sym eo) (subst (λ (n : ℕ). depthOf n (offsetOf s x y) ≤ 3) (sym es) (offset-depth s x y h)) in
+    let d : depthOf side o ≤ 3 =
+    subst (λ (z : ℤ). depthOf side z ≤ 3) (sym eo)
+    (subst (λ (n : ℕ). depthOf n (offsetOf s x y) ≤ 3) (sym es) (offset-depth s x y h)) in
     subst (λ (z : ℤ). InRange z × (depthOf side z ≤ 3)) (sym (read o r)) (r, d)
 
 pub position-is : (v : ℕ) (x y o : ℤ) (r n q e u a : ℕ) → InRange x → InRange y → 2 ≤ shellOf (sideOf v) x y → shellOf (sideOf v) x y ≤ 3
@@ -166,10 +187,13 @@ position-is v x y o r n q e u a hx hy h k en eq ee eo ea eu er =
     let s = sideOf v in
     let ro : InRange o = subst InRange (sym eo) (offset-range s x y hx hy) in
     let ea2 : a ≡ alongOf (offsetOf s x y) = ea ∙ ap alongOf (read o ro ∙ eo) in
-    let eu2 : u ≡ min (alongOf (offsetOf s x y)) (quarterOf v) = eu ∙ ap (λ (m : ℕ). min m q) ea2 ∙ ap (λ (m : ℕ). min (alongOf (offsetOf s x y)) m) eq in
+    let eu2 : u ≡ min (alongOf (offsetOf s x y)) (quarterOf v) =
+    eu ∙ ap (λ (m : ℕ). min m q) ea2 ∙ ap (λ (m : ℕ). min (alongOf (offsetOf s x y)) m) eq in
     let er2 : r ≡ onEdge (quarterOf v) (edgeOf s x y) (min (alongOf (offsetOf s x y)) (quarterOf v)) =
-    er ∙ ap (λ (m : ℕ). onEdge m e u) eq ∙ ap (λ (m : ℕ). onEdge (quarterOf v) m u) ee ∙ ap (λ (m : ℕ). onEdge (quarterOf v) (edgeOf s x y) m) eu2 in
-    ap (λ (m : ℕ). At (m % n)) er2 ∙ ap (λ (m : ℕ). At (onEdge (quarterOf v) (edgeOf s x y) (min (alongOf (offsetOf s x y)) (quarterOf v)) % m)) en
+    er ∙ ap (λ (m : ℕ). onEdge m e u) eq ∙ ap (λ (m : ℕ). onEdge (quarterOf v) m u) ee
+    ∙ ap (λ (m : ℕ). onEdge (quarterOf v) (edgeOf s x y) m) eu2 in
+    ap (λ (m : ℕ). At (m % n)) er2
+    ∙ ap (λ (m : ℕ). At (onEdge (quarterOf v) (edgeOf s x y) (min (alongOf (offsetOf s x y)) (quarterOf v)) % m)) en
     ∙ place-in v x y h k
 
 -- what a call of `depth` gives, as the machine reads its argument back
@@ -200,7 +224,8 @@ outer-is v p n q ox oy rx ry en eq hv hx hy ex ey erx ery =
     let k = p % positionsOf v in
     let x1 : ox ≡ outerX (quarterOf v) k = ex ∙ ap (λ (m : ℕ). outerX m (p % n)) eq ∙ ap (λ (m : ℕ). outerX (quarterOf v) (p % m)) en in
     let y1 : oy ≡ outerY (quarterOf v) k = ey ∙ ap (λ (m : ℕ). outerY m (p % n)) eq ∙ ap (λ (m : ℕ). outerY (quarterOf v) (p % m)) en in
-    pair _ _ _ _ (low-reads ox (outerX (quarterOf v) k) rx (omega arith) erx x1) (low-reads oy (outerY (quarterOf v) k) ry (omega arith) ery y1)
+    pair _ _ _ _ (low-reads ox (outerX (quarterOf v) k) rx (omega arith) erx x1)
+    (low-reads oy (outerY (quarterOf v) k) ry (omega arith) ery y1)
 
 pub inner-is : (v p n q ox oy sx sy : ℕ) (rx ry : ℤ) → n ≡ positionsOf v → q ≡ quarterOf v → v < 256 → sx ≤ q → sy ≤ q
     → ox ≡ outerX q (p % n) → oy ≡ outerY q (p % n) → sx ≡ inward q ox → sy ≡ inward q oy → rx ≡ coordinate sx → ry ≡ coordinate sy
@@ -210,20 +235,25 @@ inner-is v p n q ox oy sx sy rx ry en eq hv hx hy ex ey esx esy erx ery =
     let k = p % positionsOf v in
     let x1 : ox ≡ outerX (quarterOf v) k = ex ∙ ap (λ (m : ℕ). outerX m (p % n)) eq ∙ ap (λ (m : ℕ). outerX (quarterOf v) (p % m)) en in
     let y1 : oy ≡ outerY (quarterOf v) k = ey ∙ ap (λ (m : ℕ). outerY m (p % n)) eq ∙ ap (λ (m : ℕ). outerY (quarterOf v) (p % m)) en in
-    let x2 : sx ≡ inward (quarterOf v) (outerX (quarterOf v) k) = esx ∙ ap (λ (m : ℕ). inward m ox) eq ∙ ap (λ (m : ℕ). inward (quarterOf v) m) x1 in
-    let y2 : sy ≡ inward (quarterOf v) (outerY (quarterOf v) k) = esy ∙ ap (λ (m : ℕ). inward m oy) eq ∙ ap (λ (m : ℕ). inward (quarterOf v) m) y1 in
+    let x2 : sx ≡ inward (quarterOf v) (outerX (quarterOf v) k) =
+    esx ∙ ap (λ (m : ℕ). inward m ox) eq ∙ ap (λ (m : ℕ). inward (quarterOf v) m) x1 in
+    let y2 : sy ≡ inward (quarterOf v) (outerY (quarterOf v) k) =
+    esy ∙ ap (λ (m : ℕ). inward m oy) eq ∙ ap (λ (m : ℕ). inward (quarterOf v) m) y1 in
     pair _ _ _ _ (low-reads sx (inward (quarterOf v) (outerX (quarterOf v) k)) rx (omega arith) erx x2)
     (low-reads sy (inward (quarterOf v) (outerY (quarterOf v) k)) ry (omega arith) ery y2)
 
 -- what calls give, as the machine reads their arguments back
-pub shell-given : (s d : ℕ) (x y : ℤ) → InRange x → InRange y → d ≡ shellOf s (toZ w32 (ofZ w32 x)) (toZ w32 (ofZ w32 y)) → d ≡ shellOf s x y
+pub shell-given : (s d : ℕ) (x y : ℤ) → InRange x → InRange y → d ≡ shellOf s (toZ w32 (ofZ w32 x)) (toZ w32 (ofZ w32 y))
+    → d ≡ shellOf s x y
 shell-given s d x y hx hy e = e ∙ ap (λ (z : ℤ). shellOf s z (toZ w32 (ofZ w32 y))) (read x hx) ∙ ap (λ (z : ℤ). shellOf s x z) (read y hy)
 
 pub edge-read : (s e : ℕ) (x y : ℤ) → InRange x → InRange y → e ≡ edgeOf s (toZ w32 (ofZ w32 x)) (toZ w32 (ofZ w32 y)) → e ≡ edgeOf s x y
 edge-read s e x y hx hy p = p ∙ ap (λ (z : ℤ). edgeOf s z (toZ w32 (ofZ w32 y))) (read x hx) ∙ ap (λ (z : ℤ). edgeOf s x z) (read y hy)
 
-pub offset-read : (s : ℕ) (o x y : ℤ) → InRange x → InRange y → o ≡ offsetOf s (toZ w32 (ofZ w32 x)) (toZ w32 (ofZ w32 y)) → o ≡ offsetOf s x y
-offset-read s o x y hx hy p = p ∙ ap (λ (z : ℤ). offsetOf s z (toZ w32 (ofZ w32 y))) (read x hx) ∙ ap (λ (z : ℤ). offsetOf s x z) (read y hy)
+pub offset-read : (s : ℕ) (o x y : ℤ) → InRange x → InRange y → o ≡ offsetOf s (toZ w32 (ofZ w32 x)) (toZ w32 (ofZ w32 y))
+    → o ≡ offsetOf s x y
+offset-read s o x y hx hy p =
+    p ∙ ap (λ (z : ℤ). offsetOf s z (toZ w32 (ofZ w32 y))) (read x hx) ∙ ap (λ (z : ℤ). offsetOf s x z) (read y hy)
 
 -- ---- the position of the outer cell of p is p
 
@@ -252,13 +282,16 @@ level-yes : (v x y : ℕ) → 0 < max (3 - y) (y - (sideOf v + 2)) → max (3 - 
 level-yes v x y h k =
     let dx = depth-at (sideOf v) x (omega arith) in
     let dy = depth-at (sideOf v) y (omega arith) in
-    rw (lt-ltb 0 (depthOf (sideOf v) (coordinate y)) (omega arith)) (le-leb (depthOf (sideOf v) (coordinate x)) (depthOf (sideOf v) (coordinate y)) (omega arith))
+    rw (lt-ltb 0 (depthOf (sideOf v) (coordinate y)) (omega arith))
+    (le-leb (depthOf (sideOf v) (coordinate x)) (depthOf (sideOf v) (coordinate y)) (omega arith))
 
-level-no : (v x y : ℕ) → max (3 - y) (y - (sideOf v + 2)) < max (3 - x) (x - (sideOf v + 2)) → isLevel (sideOf v) (coordinate x) (coordinate y) ≡ false
+level-no : (v x y : ℕ) → max (3 - y) (y - (sideOf v + 2)) < max (3 - x) (x - (sideOf v + 2))
+    → isLevel (sideOf v) (coordinate x) (coordinate y) ≡ false
 level-no v x y k =
     let dx = depth-at (sideOf v) x (omega arith) in
     let dy = depth-at (sideOf v) y (omega arith) in
-    both-no (ltb 0 (depthOf (sideOf v) (coordinate y))) _ (lt-leb (depthOf (sideOf v) (coordinate x)) (depthOf (sideOf v) (coordinate y)) (omega arith))
+    both-no (ltb 0 (depthOf (sideOf v) (coordinate y))) _
+    (lt-leb (depthOf (sideOf v) (coordinate x)) (depthOf (sideOf v) (coordinate y)) (omega arith))
   where
     both-no : (a b : Bool) → b ≡ false → a && b ≡ false
     both-no true b e = e
@@ -284,7 +317,8 @@ right-3 a b h e = omega arith
 
 -- a cell of the outer square, by its edge and its place there
 place-on : (v x y e t : ℕ) → (m : ℕ) → m ≡ 3 → max (max (3 - x) (x - (sideOf v + 2))) (max (3 - y) (y - (sideOf v + 2))) ≡ m
-    → e ≡ edgeOf (sideOf v) (coordinate x) (coordinate y) → coordinate t ≡ offsetOf (sideOf v) (coordinate x) (coordinate y) → t ≤ quarterOf v
+    → e ≡ edgeOf (sideOf v) (coordinate x) (coordinate y) → coordinate t ≡ offsetOf (sideOf v) (coordinate x) (coordinate y)
+    → t ≤ quarterOf v
     → placeOf v (coordinate x) (coordinate y) ≡ At (onEdge (quarterOf v) e t % positionsOf v)
 unfolding positionOf
 place-on v x y e t m em d ee eo ht =
@@ -293,8 +327,10 @@ place-on v x y e t m em d ee eo ht =
     let a : alongOf (offsetOf (sideOf v) (coordinate x) (coordinate y)) ≡ t = sym (ap alongOf eo) ∙ along-at t in
     let u : min (alongOf (offsetOf (sideOf v) (coordinate x) (coordinate y))) (quarterOf v) ≡ t = least-is _ _ t a ht in
     let z : shellOf (sideOf v) (coordinate x) (coordinate y) ≡ 3 = shell-3 0 _ _ _ _ dx dy (d ∙ em) in
-    sym (place-in v (coordinate x) (coordinate y) (subst (λ (k : ℕ). 2 ≤ k) (sym z) (omega arith)) (subst (λ (k : ℕ). k ≤ 3) (sym z) (omega arith)))
-    ∙ ap (λ (k : ℕ). At (onEdge (quarterOf v) k (min (alongOf (offsetOf (sideOf v) (coordinate x) (coordinate y))) (quarterOf v)) % positionsOf v)) (sym ee)
+    sym (place-in v (coordinate x) (coordinate y) (subst (λ (k : ℕ). 2 ≤ k) (sym z) (omega arith))
+    (subst (λ (k : ℕ). k ≤ 3) (sym z) (omega arith)))
+    ∙ ap (λ (k : ℕ). At (onEdge (quarterOf v) k
+    (min (alongOf (offsetOf (sideOf v) (coordinate x) (coordinate y))) (quarterOf v)) % positionsOf v)) (sym ee)
     ∙ ap (λ (k : ℕ). At (onEdge (quarterOf v) e k % positionsOf v)) u
 
 place-top : (v x : ℕ) → x ≤ quarterOf v → placeOf v (coordinate x) (coordinate 0) ≡ At (x % positionsOf v)
@@ -303,16 +339,20 @@ place-top v x h =
     let e = edge-top (sideOf v) (coordinate x) (coordinate 0) (level-yes v x 0 (omega arith) (omega arith)) (sign-low 0 (omega arith)) in
     place-on v x 0 0 x 3 refl (omega arith) (e .0) (e .1) h
 
-place-bottom : (v x : ℕ) → x ≤ quarterOf v → placeOf v (coordinate x) (coordinate (quarterOf v)) ≡ At ((3 * quarterOf v - x) % positionsOf v)
+place-bottom : (v x : ℕ) → x ≤ quarterOf v
+    → placeOf v (coordinate x) (coordinate (quarterOf v)) ≡ At ((3 * quarterOf v - x) % positionsOf v)
 unfolding onEdge
 place-bottom v x h =
-    let e = edge-bottom (sideOf v) (coordinate x) (coordinate (quarterOf v)) (level-yes v x (quarterOf v) (omega arith) (omega arith)) (sign-high (quarterOf v) (omega arith)) in
+    let e = edge-bottom (sideOf v) (coordinate x) (coordinate (quarterOf v)) (level-yes v x (quarterOf v) (omega arith) (omega arith))
+    (sign-high (quarterOf v) (omega arith)) in
     place-on v x (quarterOf v) 2 x 3 refl (right-3 _ _ (reach v x h) (reach-end v)) (e .0) (e .1) h
 
-place-right : (v y : ℕ) → 1 ≤ y → y < quarterOf v → placeOf v (coordinate (quarterOf v)) (coordinate y) ≡ At ((quarterOf v + y) % positionsOf v)
+place-right : (v y : ℕ) → 1 ≤ y → y < quarterOf v
+    → placeOf v (coordinate (quarterOf v)) (coordinate y) ≡ At ((quarterOf v + y) % positionsOf v)
 unfolding onEdge
 place-right v y h k =
-    let e = edge-right (sideOf v) (coordinate (quarterOf v)) (coordinate y) (level-no v (quarterOf v) y (omega arith)) (sign-high (quarterOf v) (omega arith)) in
+    let e = edge-right (sideOf v) (coordinate (quarterOf v)) (coordinate y) (level-no v (quarterOf v) y (omega arith))
+    (sign-high (quarterOf v) (omega arith)) in
     place-on v (quarterOf v) y 1 y 3 refl (left-3 _ _ (reach-end v) (reach v y (omega arith))) (e .0) (e .1) (omega arith)
 
 place-left : (v y : ℕ) → 1 ≤ y → y < quarterOf v → placeOf v (coordinate 0) (coordinate y) ≡ At ((4 * quarterOf v - y) % positionsOf v)
@@ -322,15 +362,18 @@ place-left v y h k =
     place-on v 0 y 3 y 3 refl (omega arith) (e .0) (e .1) (omega arith)
 
 -- a cell at given places
-at-places : (v x y x′ y′ : ℕ) (a : Place) → x ≡ x′ → y ≡ y′ → placeOf v (coordinate x) (coordinate y) ≡ a → placeOf v (coordinate x′) (coordinate y′) ≡ a
+at-places : (v x y x′ y′ : ℕ) (a : Place) → x ≡ x′ → y ≡ y′ → placeOf v (coordinate x) (coordinate y) ≡ a
+    → placeOf v (coordinate x′) (coordinate y′) ≡ a
 at-places v x y x′ y′ a ex ey e =
     sym (ap (λ (k : ℕ). placeOf v (coordinate x) (coordinate k)) ey ∙ ap (λ (k : ℕ). placeOf v (coordinate k) (coordinate y′)) ex) ∙ e
 
 at-position : (v k p : ℕ) → k ≡ p → p < positionsOf v → At (k % positionsOf v) ≡ At p
 at-position v k p e h = ap (λ (m : ℕ). At (m % positionsOf v)) e ∙ ap At (mod-eq-of-lt h)
 
-position-outer-at : (v p : ℕ) → p < positionsOf v → placeOf v (coordinate (outerX (quarterOf v) p)) (coordinate (outerY (quarterOf v) p)) ≡ At p
-position-outer-at v p h = go (leb p (quarterOf v)) refl (leb p (2 * quarterOf v)) refl (leb p (3 * quarterOf v)) refl (ltb (p - quarterOf v) (quarterOf v)) refl
+position-outer-at : (v p : ℕ) → p < positionsOf v
+    → placeOf v (coordinate (outerX (quarterOf v) p)) (coordinate (outerY (quarterOf v) p)) ≡ At p
+position-outer-at v p h =
+    go (leb p (quarterOf v)) refl (leb p (2 * quarterOf v)) refl (leb p (3 * quarterOf v)) refl (ltb (p - quarterOf v) (quarterOf v)) refl
   where
     go : (a : Bool) → leb p (quarterOf v) ≡ a → (b : Bool) → leb p (2 * quarterOf v) ≡ b → (c : Bool) → leb p (3 * quarterOf v) ≡ c
         → (d : Bool) → ltb (p - quarterOf v) (quarterOf v) ≡ d
@@ -359,7 +402,8 @@ position-outer-at v p h = go (leb p (quarterOf v)) refl (leb p (2 * quarterOf v)
     go false ea false eb false ec d ed =
         let g : 3 * quarterOf v < p = leb-false p (3 * quarterOf v) ec in
         at-places v 0 (4 * quarterOf v - p) _ _ _ (outer-x-4 (quarterOf v) p g) (outer-y-4 (quarterOf v) p g)
-        (place-left v (4 * quarterOf v - p) (omega arith) (omega arith) ∙ at-position v (4 * quarterOf v - (4 * quarterOf v - p)) p (omega arith) h)
+        (place-left v (4 * quarterOf v - p) (omega arith) (omega arith)
+        ∙ at-position v (4 * quarterOf v - (4 * quarterOf v - p)) p (omega arith) h)
 
 pub position-outer : (v p : ℕ) → p < positionsOf v → placeOf v (outerCell v p .x) (outerCell v p .y) ≡ At p
 unfolding outerCell

@@ -79,7 +79,8 @@ low-in (negsuc n) t = let h : n ≤ 32767 = ltb-false 32767 n t in sym (lt-ltb n
 pub range-low : (z : ℤ) → SFits w32 z → ltZ (toZ w32 (ofZ w32 z)) (negsuc 32767) ≡ true → false ≡ inRange z
 range-low z h t = low-out z (subst (λ (y : ℤ). ltZ y (negsuc 32767) ≡ true) (toZ-ofZ w32 z h) t)
 
-pub range-high : (z : ℤ) → SFits w32 z → ltZ (toZ w32 (ofZ w32 z)) (negsuc 32767) ≡ false → leZ (toZ w32 (ofZ w32 z)) (pos 32767) ≡ inRange z
+pub range-high : (z : ℤ) → SFits w32 z → ltZ (toZ w32 (ofZ w32 z)) (negsuc 32767) ≡ false
+    → leZ (toZ w32 (ofZ w32 z)) (pos 32767) ≡ inRange z
 range-high z h t =
     ap (λ (y : ℤ). leZ y (pos 32767)) (toZ-ofZ w32 z h) ∙ low-in z (subst (λ (y : ℤ). ltZ y (negsuc 32767) ≡ false) (toZ-ofZ w32 z h) t)
 
@@ -96,7 +97,8 @@ range-read z h e = subst InRange (sym (toZ-ofZ w32 z h)) (range-is z e)
 pub shell-at : (v w : ℕ) (x y : ℤ) → w ≡ v → InRange x → InRange y
     → shellOf (sideOf w) (toZ w32 (ofZ w32 x)) (toZ w32 (ofZ w32 y)) ≡ shellOf (sideOf v) x y
 shell-at v w x y e hx hy =
-    ap (λ (n : ℕ). shellOf (sideOf n) (toZ w32 (ofZ w32 x)) (toZ w32 (ofZ w32 y))) e ∙ ap (λ (z : ℤ). shellOf (sideOf v) z (toZ w32 (ofZ w32 y))) (read x hx)
+    ap (λ (n : ℕ). shellOf (sideOf n) (toZ w32 (ofZ w32 x)) (toZ w32 (ofZ w32 y))) e
+    ∙ ap (λ (z : ℤ). shellOf (sideOf v) z (toZ w32 (ofZ w32 y))) (read x hx)
     ∙ ap (λ (z : ℤ). shellOf (sideOf v) x z) (read y hy)
 
 pub place-at : (v w : ℕ) (x y : ℤ) → w ≡ v → InRange x → InRange y → placeOf w (toZ w32 (ofZ w32 x)) (toZ w32 (ofZ w32 y)) ≡ placeOf v x y

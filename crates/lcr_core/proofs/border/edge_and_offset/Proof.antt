@@ -42,8 +42,10 @@ returns c =
     let a = c .before .before .before .before .before .before .before in
     let es = c .before .before .before .before .before .before .side .ensures in
     let s = sideOf (a .args .version .0) in
-    let l = level-is s (a .args .x) (a .args .y) _ _ _ _ (depth-given s _ _ (a .args .x) (a .pre .0) es (c .before .before .before .before .before .depth .ensures))
-    (depth-given s _ _ (a .args .y) (a .pre .1) es (c .before .before .before .before .depth2 .ensures)) (c .before .before .before .is-level .ensures) (c .before .before .if1 .taken) in
+    let l = level-is s (a .args .x) (a .args .y) _ _ _ _
+    (depth-given s _ _ (a .args .x) (a .pre .0) es (c .before .before .before .before .before .depth .ensures))
+    (depth-given s _ _ (a .args .y) (a .pre .1) es (c .before .before .before .before .depth2 .ensures))
+    (c .before .before .before .is-level .ensures) (c .before .before .if1 .taken) in
     edge-given _ _ (a .args .x) _ (a .pre .0)
     (edge-top s (a .args .x) (a .args .y) l (sign-given (a .args .y) _ _ (a .pre .1) (c .before .is-negative .ensures) (c .if2 .taken)))
 
@@ -53,8 +55,10 @@ returns-2 c =
     let a = c .before .before .before .before .before .before .before in
     let es = c .before .before .before .before .before .before .side .ensures in
     let s = sideOf (a .args .version .0) in
-    let l = level-is s (a .args .x) (a .args .y) _ _ _ _ (depth-given s _ _ (a .args .x) (a .pre .0) es (c .before .before .before .before .before .depth .ensures))
-    (depth-given s _ _ (a .args .y) (a .pre .1) es (c .before .before .before .before .depth2 .ensures)) (c .before .before .before .is-level .ensures) (c .before .before .if1 .taken) in
+    let l = level-is s (a .args .x) (a .args .y) _ _ _ _
+    (depth-given s _ _ (a .args .x) (a .pre .0) es (c .before .before .before .before .before .depth .ensures))
+    (depth-given s _ _ (a .args .y) (a .pre .1) es (c .before .before .before .before .depth2 .ensures))
+    (c .before .before .before .is-level .ensures) (c .before .before .if1 .taken) in
     edge-given _ _ (a .args .x) _ (a .pre .0)
     (edge-bottom s (a .args .x) (a .args .y) l (sign-given (a .args .y) _ _ (a .pre .1) (c .before .is-negative .ensures) (c .if2 .left)))
 
@@ -68,8 +72,10 @@ returns-3 c =
     let a = c .before .before .before .before .before .before .before in
     let es = c .before .before .before .before .before .before .side .ensures in
     let s = sideOf (a .args .version .0) in
-    let l = level-is s (a .args .x) (a .args .y) _ _ _ _ (depth-given s _ _ (a .args .x) (a .pre .0) es (c .before .before .before .before .before .depth .ensures))
-    (depth-given s _ _ (a .args .y) (a .pre .1) es (c .before .before .before .before .depth2 .ensures)) (c .before .before .before .is-level .ensures) (c .before .before .if1 .left) in
+    let l = level-is s (a .args .x) (a .args .y) _ _ _ _
+    (depth-given s _ _ (a .args .x) (a .pre .0) es (c .before .before .before .before .before .depth .ensures))
+    (depth-given s _ _ (a .args .y) (a .pre .1) es (c .before .before .before .before .depth2 .ensures))
+    (c .before .before .before .is-level .ensures) (c .before .before .if1 .left) in
     edge-given _ _ (a .args .y) _ (a .pre .1)
     (edge-left s (a .args .x) (a .args .y) l (sign-given (a .args .x) _ _ (a .pre .0) (c .before .is-negative2 .ensures) (c .if3 .taken)))
 
@@ -79,8 +85,10 @@ returns-4 c =
     let a = c .before .before .before .before .before .before .before in
     let es = c .before .before .before .before .before .before .side .ensures in
     let s = sideOf (a .args .version .0) in
-    let l = level-is s (a .args .x) (a .args .y) _ _ _ _ (depth-given s _ _ (a .args .x) (a .pre .0) es (c .before .before .before .before .before .depth .ensures))
-    (depth-given s _ _ (a .args .y) (a .pre .1) es (c .before .before .before .before .depth2 .ensures)) (c .before .before .before .is-level .ensures) (c .before .before .if1 .left) in
+    let l = level-is s (a .args .x) (a .args .y) _ _ _ _
+    (depth-given s _ _ (a .args .x) (a .pre .0) es (c .before .before .before .before .before .depth .ensures))
+    (depth-given s _ _ (a .args .y) (a .pre .1) es (c .before .before .before .before .depth2 .ensures))
+    (c .before .before .before .is-level .ensures) (c .before .before .if1 .left) in
     edge-given _ _ (a .args .y) _ (a .pre .1)
     (edge-right s (a .args .x) (a .args .y) l (sign-given (a .args .x) _ _ (a .pre .0) (c .before .is-negative2 .ensures) (c .if3 .left)))
 
