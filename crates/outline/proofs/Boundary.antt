@@ -47,15 +47,15 @@ often-joined q (suc n) f =
 -- as a sum over rows and one over columns
 often-boundary : (q : Pt) (k : ℕ) (t : ℕ → ℕ → Bool) (b : Box)
     → often q (ptsOf (boundary k t b))
-    ≡ sumTo (b .y1 - b .y0) (λ j. often q (ptsOf (rowPoints k t b (b .y0 + j)))) + sumTo (b .x1 - b .x0)
-    (λ i. often q (ptsOf (columnPoints k t b (b .x0 + i))))
+    ≡ sumTo (b .y1 - b .y0) (λ j. often q (ptsOf (rowPoints k t (b .x0) (b .x1 - b .x0) (b .y0 + j)))) + sumTo (b .x1 - b .x0)
+    (λ i. often q (ptsOf (columnPoints k t (b .y0) (b .y1 - b .y0) (b .x0 + i))))
 unfolding boundary rowsFrom columnsFrom
 often-boundary q k t b =
-    let R = joined (b .y1 - b .y0) (λ j. rowPoints k t b (b .y0 + j)) in
-    let C = joined (b .x1 - b .x0) (λ i. columnPoints k t b (b .x0 + i)) in
+    let R = joined (b .y1 - b .y0) (λ j. rowPoints k t (b .x0) (b .x1 - b .x0) (b .y0 + j)) in
+    let C = joined (b .x1 - b .x0) (λ i. columnPoints k t (b .y0) (b .y1 - b .y0) (b .x0 + i)) in
     ap (often q) (pts-append R C) ∙ often-append q (ptsOf R) (ptsOf C)
-    ∙ ap₂ (λ (x y : ℕ). x + y) (often-joined q (b .y1 - b .y0) (λ j. rowPoints k t b (b .y0 + j)))
-    (often-joined q (b .x1 - b .x0) (λ i. columnPoints k t b (b .x0 + i)))
+    ∙ ap₂ (λ (x y : ℕ). x + y) (often-joined q (b .y1 - b .y0) (λ j. rowPoints k t (b .x0) (b .x1 - b .x0) (b .y0 + j)))
+    (often-joined q (b .x1 - b .x0) (λ i. columnPoints k t (b .y0) (b .y1 - b .y0) (b .x0 + i)))
 
 -- a map that takes no two points to one
 same-inj : (m : Pt → Pt) → ((a b : Pt) → m a ≡ m b → a ≡ b) → (a b : Pt) → samePt (m a) (m b) ≡ samePt a b
@@ -101,12 +101,12 @@ unfolding transposed boxT rowPoints columnPoints
 boundary-transpose q k t b =
     often-boundary (swap q) k (transposed t) (boxT b)
     ∙ ap₂ (λ (x y : ℕ). x + y)
-    (fold-ext _+_ 0 (b .x1 - b .x0) _ (λ i. often q (ptsOf (columnPoints k t b (b .x0 + i))))
+    (fold-ext _+_ 0 (b .x1 - b .x0) _ (λ i. often q (ptsOf (columnPoints k t (b .y0) (b .y1 - b .y0) (b .x0 + i))))
     (λ i l. often-turn q (2 * (b .x0 + i) + 1) (edges k (b .y1 - b .y0) (λ j. t (b .x0 + i) (b .y0 + j)) (b .y0))))
-    (fold-ext _+_ 0 (b .y1 - b .y0) _ (λ j. often q (ptsOf (rowPoints k t b (b .y0 + j))))
+    (fold-ext _+_ 0 (b .y1 - b .y0) _ (λ j. often q (ptsOf (rowPoints k t (b .x0) (b .x1 - b .x0) (b .y0 + j))))
     (λ j l. often-turn′ q (2 * (b .y0 + j) + 1) (edges k (b .x1 - b .x0) (λ i. t (b .x0 + i) (b .y0 + j)) (b .x0))))
-    ∙ add-comm (sumTo (b .x1 - b .x0) (λ i. often q (ptsOf (columnPoints k t b (b .x0 + i)))))
-    (sumTo (b .y1 - b .y0) (λ j. often q (ptsOf (rowPoints k t b (b .y0 + j)))))
+    ∙ add-comm (sumTo (b .x1 - b .x0) (λ i. often q (ptsOf (columnPoints k t (b .y0) (b .y1 - b .y0) (b .x0 + i)))))
+    (sumTo (b .y1 - b .y0) (λ j. often q (ptsOf (rowPoints k t (b .x0) (b .x1 - b .x0) (b .y0 + j)))))
     ∙ sym (often-boundary q k t b)
 
 -- ---- the mirror
@@ -169,14 +169,14 @@ module _ (q : Pt) (k w h : ℕ) (t u : ℕ → ℕ → Bool) (b : Box) (in′ : 
   boundary-mirror =
       often-boundary (mirror (pos (2 * w)) q) k u (boxM w b)
       ∙ ap₂ (λ (x y : ℕ). x + y)
-      (fold-ext _+_ 0 (b .y1 - b .y0) _ (λ j. often q (ptsOf (rowPoints k t b (b .y0 + j)))) rows)
-      (ap (λ (n : ℕ). sumTo n (λ i. often (mirror (pos (2 * w)) q) (ptsOf (columnPoints k u (boxM w b) (w - b .x1 + i))))) (sym side)
-      ∙ fold-ext _+_ 0 (b .x1 - b .x0) _ (λ i. often q (ptsOf (columnPoints k t b (b .x0 + (b .x1 - b .x0 - 1 - i))))) columns
-      ∙ fold-reverse _+_ 0 add-comm add-assoc (b .x1 - b .x0) (λ i. often q (ptsOf (columnPoints k t b (b .x0 + i)))))
+      (fold-ext _+_ 0 (b .y1 - b .y0) _ (λ j. often q (ptsOf (rowPoints k t (b .x0) (b .x1 - b .x0) (b .y0 + j)))) rows)
+      (ap (λ (n : ℕ). sumTo n (λ i. often (mirror (pos (2 * w)) q) (ptsOf (columnPoints k u (boxM w b .y0) (boxM w b .y1 - boxM w b .y0) (w - b .x1 + i))))) (sym side)
+      ∙ fold-ext _+_ 0 (b .x1 - b .x0) _ (λ i. often q (ptsOf (columnPoints k t (b .y0) (b .y1 - b .y0) (b .x0 + (b .x1 - b .x0 - 1 - i))))) columns
+      ∙ fold-reverse _+_ 0 add-comm add-assoc (b .x1 - b .x0) (λ i. often q (ptsOf (columnPoints k t (b .y0) (b .y1 - b .y0) (b .x0 + i)))))
       ∙ sym (often-boundary q k t b)
     where
       rows : (j : ℕ) → j < b .y1 - b .y0
-          → often (mirror (pos (2 * w)) q) (ptsOf (rowPoints k u (boxM w b) (b .y0 + j))) ≡ often q (ptsOf (rowPoints k t b (b .y0 + j)))
+          → often (mirror (pos (2 * w)) q) (ptsOf (rowPoints k u (boxM w b .x0) (boxM w b .x1 - boxM w b .x0) (b .y0 + j))) ≡ often q (ptsOf (rowPoints k t (b .x0) (b .x1 - b .x0) (b .y0 + j)))
       rows j l =
           ap (λ (n : ℕ). often (mirror (pos (2 * w)) q)
           (ptsOf (map (across (2 * (b .y0 + j) + 1)) (edges k n (λ i. u (w - b .x1 + i) (b .y0 + j)) (w - b .x1))))) (sym side)
@@ -202,8 +202,8 @@ module _ (q : Pt) (k w h : ℕ) (t u : ℕ → ℕ → Bool) (b : Box) (in′ : 
           back x0 x1 w i a c = omega arith
 
       columns : (i : ℕ) → i < b .x1 - b .x0
-          → often (mirror (pos (2 * w)) q) (ptsOf (columnPoints k u (boxM w b) (w - b .x1 + i)))
-          ≡ often q (ptsOf (columnPoints k t b (b .x0 + (b .x1 - b .x0 - 1 - i))))
+          → often (mirror (pos (2 * w)) q) (ptsOf (columnPoints k u (boxM w b .y0) (boxM w b .y1 - boxM w b .y0) (w - b .x1 + i)))
+          ≡ often q (ptsOf (columnPoints k t (b .y0) (b .y1 - b .y0) (b .x0 + (b .x1 - b .x0 - 1 - i))))
       columns i l =
           let X = b .x0 + (b .x1 - b .x0 - 1 - i) in
           let e : w - b .x1 + i ≡ w - 1 - X = at (b .x0) (b .x1) w i (in′ .wide) l in
@@ -235,11 +235,11 @@ unfolding rowPoints columnPoints
 boundary-ext q k w h t u b in′ same =
     often-boundary q k u b
     ∙ ap₂ (λ (x y : ℕ). x + y)
-    (fold-ext _+_ 0 (b .y1 - b .y0) _ (λ j. often q (ptsOf (rowPoints k t b (b .y0 + j))))
+    (fold-ext _+_ 0 (b .y1 - b .y0) _ (λ j. often q (ptsOf (rowPoints k t (b .x0) (b .x1 - b .x0) (b .y0 + j))))
     (λ j lj. ap (λ (E : List ℕ). often q (ptsOf (map (across (2 * (b .y0 + j) + 1)) E)))
     (edges-ext k (b .x1 - b .x0) (λ i. u (b .x0 + i) (b .y0 + j)) (λ i. t (b .x0 + i) (b .y0 + j)) (b .x0)
     (λ i li. same (b .x0 + i) (b .y0 + j) (in-s (b .x0) (b .x1) w i (in′ .wide) li) (in-s (b .y0) (b .y1) h j (in′ .high) lj)))))
-    (fold-ext _+_ 0 (b .x1 - b .x0) _ (λ i. often q (ptsOf (columnPoints k t b (b .x0 + i))))
+    (fold-ext _+_ 0 (b .x1 - b .x0) _ (λ i. often q (ptsOf (columnPoints k t (b .y0) (b .y1 - b .y0) (b .x0 + i))))
     (λ i li. ap (λ (E : List ℕ). often q (ptsOf (map (down (2 * (b .x0 + i) + 1)) E)))
     (edges-ext k (b .y1 - b .y0) (λ j. u (b .x0 + i) (b .y0 + j)) (λ j. t (b .x0 + i) (b .y0 + j)) (b .y0)
     (λ j lj. same (b .x0 + i) (b .y0 + j) (in-s (b .x0) (b .x1) w i (in′ .wide) li) (in-s (b .y0) (b .y1) h j (in′ .high) lj)))))

@@ -74,7 +74,7 @@ edge-le k n t s e m = go (ltb (runStart k n t) n) m
 pub boundary-within : (k w h : ℕ) (t : ℕ → ℕ → Bool) (b : Box) → Within b w h → (q : ℕ × ℕ) → List·Memᴰ q (boundary k t b)
     → (q .0 ≤ 2 * w) × (q .1 ≤ 2 * h)
 unfolding boundary rowsFrom columnsFrom rowPoints columnPoints
-boundary-within k w h t b in′ q m = go (List·Memᴰ·append-cases (joined (b .y1 - b .y0) (λ j. rowPoints k t b (b .y0 + j))) m)
+boundary-within k w h t b in′ q m = go (List·Memᴰ·append-cases (joined (b .y1 - b .y0) (λ j. rowPoints k t (b .x0) (b .x1 - b .x0) (b .y0 + j))) m)
   where
     far : (x0 x1 w e : ℕ) → x0 ≤ x1 → x1 ≤ w → e ≤ 2 * (x0 + (x1 - x0)) → e ≤ 2 * w
     far x0 x1 w e a c d = omega arith
@@ -82,10 +82,10 @@ boundary-within k w h t b in′ q m = go (List·Memᴰ·append-cases (joined (b 
     mid : (y0 y1 h j e : ℕ) → y1 ≤ h → j < y1 - y0 → e ≡ 2 * (y0 + j) + 1 → e ≤ 2 * h
     mid y0 y1 h j e a c d = omega arith
 
-    go : List·Memᴰ q (joined (b .y1 - b .y0) (λ j. rowPoints k t b (b .y0 + j)))
-        ⊎ List·Memᴰ q (joined (b .x1 - b .x0) (λ i. columnPoints k t b (b .x0 + i))) → (q .0 ≤ 2 * w) × (q .1 ≤ 2 * h)
+    go : List·Memᴰ q (joined (b .y1 - b .y0) (λ j. rowPoints k t (b .x0) (b .x1 - b .x0) (b .y0 + j)))
+        ⊎ List·Memᴰ q (joined (b .x1 - b .x0) (λ i. columnPoints k t (b .y0) (b .y1 - b .y0) (b .x0 + i))) → (q .0 ≤ 2 * w) × (q .1 ≤ 2 * h)
     go (inl u) =
-        let r = joined-mem (b .y1 - b .y0) (λ j. rowPoints k t b (b .y0 + j)) q u in
+        let r = joined-mem (b .y1 - b .y0) (λ j. rowPoints k t (b .x0) (b .x1 - b .x0) (b .y0 + j)) q u in
         let s = mapped (across (2 * (b .y0 + r .0) + 1)) (edges k (b .x1 - b .x0) (λ i. t (b .x0 + i) (b .y0 + r .0)) (b .x0)) q (r .2) in (
           far (b .x0) (b .x1) w (q .0) (in′ .across′) (in′ .wide)
               (omega (
@@ -96,7 +96,7 @@ boundary-within k w h t b in′ q m = go (List·Memᴰ·append-cases (joined (b 
           mid (b .y0) (b .y1) h (r .0) (q .1) (in′ .high) (r .1) (ap (λ (z : ℕ × ℕ). z .1) (s .2)),
         )
     go (inr u) =
-        let r = joined-mem (b .x1 - b .x0) (λ i. columnPoints k t b (b .x0 + i)) q u in
+        let r = joined-mem (b .x1 - b .x0) (λ i. columnPoints k t (b .y0) (b .y1 - b .y0) (b .x0 + i)) q u in
         let s = mapped (down (2 * (b .x0 + r .0) + 1)) (edges k (b .y1 - b .y0) (λ j. t (b .x0 + r .0) (b .y0 + j)) (b .y0)) q (r .2) in (
           mid (b .x0) (b .x1) w (r .0) (q .0) (in′ .wide) (r .1) (ap (λ (z : ℕ × ℕ). z .0) (s .2)),
           far (b .y0) (b .y1) h (q .1) (in′ .down′) (in′ .high)

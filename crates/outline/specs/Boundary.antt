@@ -5,10 +5,10 @@ use mathlib.Core.Bool.{Bool, _&&_, _||_, not}
 use mathlib.Core.List.{List, [], _++_, map}
 use Prim.Native.Nat.{ℕ, zero, suc, _+_, _-_, _*_, _/_}
 use lib.Dec.{eqb, ltb}
-use Rattle.laws.specs.Plane.{Plane}
+use Rattle.laws.specs.Plane.{Plane, plane}
 use Rattle.laws.specs.Move.{Box}
-use Rattle.levels.specs.Level.{level}
-use Rattle.regions.specs.Cells.{labelAt}
+use Rattle.levels.specs.Level.{cells, level}
+use Rattle.regions.specs.Cells.{cells8, labelAt}
 use Rattle.regions.specs.Boxes.{regionBox}
 use Rattle.outline.specs.Runs.{edges}
 
@@ -24,6 +24,10 @@ memberOf want pixel levels labels x y = ltb (pixel x y) (levels (x / 16) (y / 16
 unfoldable pub isMember : Plane → ℕ → ℕ → ℕ → ℕ → ℕ → Bool
 isMember p w h want = memberOf want p (level p w h) (labelAt p w h)
 
+-- The same of lists: the bytes s of a picture of width w, row by row, its thresholds and its labels.
+unfoldable pub memberAt : ℕ → ℕ → List ℕ → List ℕ → List ℕ → ℕ → ℕ → Bool
+memberAt want w s levels labels = memberOf want (plane w s) (plane (cells w) levels) (plane (cells8 w) labels)
+
 -- f 0, .. , f (n - 1), one list after the other.
 unfoldable pub joined : {A : Type 0} → ℕ → (ℕ → List A) → List A
 joined zero f = []
@@ -36,23 +40,25 @@ across y x = (x, y)
 abbrev pub down : ℕ → ℕ → ℕ × ℕ
 down x y = (x, y)
 
--- The points of row y of a box and of column x of it; t says which pixels are members.
-unfoldable pub rowPoints : ℕ → (ℕ → ℕ → Bool) → Box → ℕ → List (ℕ × ℕ)
-rowPoints k t b y = map (across (2 * y + 1)) (edges k (b .x1 - b .x0) (λ i. t (b .x0 + i) y) (b .x0))
+-- The points of row y, of which n pixels from x0 on are looked at, and of column x, of which n pixels from y0 on are; t says which pixels are
+-- members.
+unfoldable pub rowPoints : ℕ → (ℕ → ℕ → Bool) → ℕ → ℕ → ℕ → List (ℕ × ℕ)
+rowPoints k t x0 n y = map (across (2 * y + 1)) (edges k n (λ i. t (x0 + i) y) x0)
 
-unfoldable pub columnPoints : ℕ → (ℕ → ℕ → Bool) → Box → ℕ → List (ℕ × ℕ)
-columnPoints k t b x = map (down (2 * x + 1)) (edges k (b .y1 - b .y0) (λ j. t x (b .y0 + j)) (b .y0))
+unfoldable pub columnPoints : ℕ → (ℕ → ℕ → Bool) → ℕ → ℕ → ℕ → List (ℕ × ℕ)
+columnPoints k t y0 n x = map (down (2 * x + 1)) (edges k n (λ j. t x (y0 + j)) y0)
 
--- The points of n rows from y on, and of n columns from x on.
-unfoldable pub rowsFrom : ℕ → (ℕ → ℕ → Bool) → Box → ℕ → ℕ → List (ℕ × ℕ)
-rowsFrom k t b y n = joined n (λ j. rowPoints k t b (y + j))
+-- The points of m such rows from y0 on, and of m such columns from x0 on.
+unfoldable pub rowsFrom : ℕ → (ℕ → ℕ → Bool) → ℕ → ℕ → ℕ → ℕ → List (ℕ × ℕ)
+rowsFrom k t x0 n y0 m = joined m (λ j. rowPoints k t x0 n (y0 + j))
 
-unfoldable pub columnsFrom : ℕ → (ℕ → ℕ → Bool) → Box → ℕ → ℕ → List (ℕ × ℕ)
-columnsFrom k t b x n = joined n (λ i. columnPoints k t b (x + i))
+unfoldable pub columnsFrom : ℕ → (ℕ → ℕ → Bool) → ℕ → ℕ → ℕ → ℕ → List (ℕ × ℕ)
+columnsFrom k t y0 n x0 m = joined m (λ i. columnPoints k t y0 n (x0 + i))
 
 -- The points of a box: all its rows, then all its columns.
 unfoldable pub boundary : ℕ → (ℕ → ℕ → Bool) → Box → List (ℕ × ℕ)
-boundary k t b = rowsFrom k t b (b .y0) (b .y1 - b .y0) ++ columnsFrom k t b (b .x0) (b .x1 - b .x0)
+boundary k t b =
+    rowsFrom k t (b .x0) (b .x1 - b .x0) (b .y0) (b .y1 - b .y0) ++ columnsFrom k t (b .y0) (b .y1 - b .y0) (b .x0) (b .x1 - b .x0)
 
 -- The boundary points of the region with the label l, in a picture p of w by h.
 unfoldable pub outlineOf : ℕ → Plane → ℕ → ℕ → ℕ → List (ℕ × ℕ)
