@@ -1,0 +1,11 @@
+pub mod Values
+pub mod Tests
+pub mod Roots
+pub mod RootNearest
+pub mod Narrows
+pub mod Helpers
+pub mod Vals
+pub mod Signs
+pub mod Orders
+pub mod Wholes
+pub mod Decimals

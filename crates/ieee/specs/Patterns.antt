@@ -1,0 +1,27 @@
+-- A finite value's bit pattern b taken apart, as IEEE 754's binary formats have it: digits times a power of two smallest values.
+-- Definitions only. Assumes nothing.
+use Prim.Native.Nat.{ℕ, min, _+_, _-_, _*_, _/_, _%_}
+
+-- the digits of an `f32`, with the leading one of a value that is not subnormal
+abbrev pub mant : ℕ → ℕ
+mant b = b % 8388608 + 8388608 * min (b % 2147483648 / 8388608) 1
+
+-- the power of two that they are times
+abbrev pub expo : ℕ → ℕ
+expo b = b % 2147483648 / 8388608 - 1
+
+-- the digits of an `f64`
+abbrev pub mant64 : ℕ → ℕ
+mant64 b = b % 4503599627370496 + 4503599627370496 * min (b % 9223372036854775808 / 4503599627370496) 1
+
+-- the power of two that they are times
+abbrev pub expo64 : ℕ → ℕ
+expo64 b = b % 9223372036854775808 / 4503599627370496 - 1
+
+-- the power of two that the digits of the nearest `f32` are times
+abbrev pub dropped : ℕ → ℕ
+dropped b = expo64 b - 896
+
+-- how many of the digits of an `f64` lie below the last of the nearest `f32`
+abbrev pub cut64 : ℕ → ℕ
+cut64 b = 925 + dropped b - expo64 b

@@ -1,0 +1,68 @@
+// The pattern of an f32's root, by whole numbers.
+ghost use mathlib.Core.Path.{_≡_};
+ghost use Prim.Native.Nat.{min, _+_, _-_, _*_, _/_, _%_, _<_};
+ghost use lib.Ieee as Ieee;
+ghost use lib.Ieee.{binary32};
+ghost use Rattle.ieee.specs.Root.{sqrt, nearRoot};
+ghost use Rattle.ieee.specs.Patterns.{mant, expo};
+
+// The digits of a positive f32's pattern, with the leading one.
+fn digits(b: u32) -> u64
+    requires { ⌜ b < 2147483648 ⌝ }
+    ensures { λ r. ⌜ r ≡ mant b ⌝ }
+{
+    let t = (b % 0x80_0000) as u64;
+    if b < 0x80_0000 { t } else { t + 0x80_0000 }
+}
+
+// How many places above the last the root of a positive f32's pattern starts, twice.
+fn place(b: u32) -> u32
+    requires { ⌜ b < 2139095040 ⌝ }
+    ensures { λ r. ⌜ r ≡ expo b + 149 ⌝ }
+{
+    if b < 0x80_0000 {
+        149
+    } else {
+        b / 0x80_0000 + 148
+    }
+}
+
+// The whole number nearest to the root of m. The root lies from r up to, but not at, r + step.
+fn near_root(m: u64) -> u64
+    requires { ⌜ m < 281474976710656 ⌝ }
+    ensures { λ r. ⌜ r ≡ nearRoot m ⌝ }
+{
+    let mut r = 0u64;
+    let mut step = 0x100_0000u64;
+    while step > 1 {
+        let half = step / 2;
+        let t = r + half;
+        if t * t <= m {
+            r = t;
+            step = step - half;
+        } else {
+            step = half;
+        }
+    }
+    if r * r + r < m { r + 1 } else { r }
+}
+
+// The pattern of the root of the value of a positive, finite pattern.
+pub fn root_bits(b: u32) -> u32
+    requires { ⌜ 0 < b ⌝ }
+    requires { ⌜ b < 2139095040 ⌝ }
+    ensures { λ r. ⌜ (r < 2139095040)
+        × (Ieee.ofBits binary32 r ≡ sqrt binary32 (Ieee.ofBits binary32 b)) ⌝ }
+{
+    // the value is m * 2^p / 2^298, so its root is that of m * 2^p, in smallest values
+    let m = digits(b);
+    let p = place(b);
+    // m * 2^p is n * 4^k
+    let mut n = m * ((1 + p % 2) as u64) * 0x10_0000;
+    let mut k = p / 2 - 10;
+    while n < 0x4000_0000_0000 {
+        n = n * 4;
+        k = k - 1;
+    }
+    k * 0x80_0000 + (near_root(n) as u32)
+}
