@@ -26,17 +26,17 @@ use Rattle.whole.proofs.Turns.{d2N}
 use Rattle.whole.proofs.Indexed.{iquad-cong, quad-is}
 use Rattle.hull.specs.Points.{0f, xAt, yAt, numbersOf, floatsOf, ptOf, ptsOf, Small}
 use Rattle.hull.specs.Hull.{crossAt, d2At}
-use Rattle.hull.specs.Quad.{laceAt, areaAt, quadOps, quadOf, quadPoints, -1f}
+use Rattle.hull.specs.Quad.{laceAt, areaAt, quadOps, quadOf, quadPoints, minusOne}
 use Rattle.hull.proofs.Exact.{at, pt-at, small-at, vx, vy, dx, dy, near, sum-size, less-is, cross-round, d2-is, map-pt, length-pts}
 
 -- −1 as an f32 is −4 / 4
-minus-val : Val -1f 2 (negsuc 3)
+minus-val : Val minusOne 2 (negsuc 3)
 unfolding ofBits
 minus-val = record { minus = true; size = 4; has = (refl, refl); is = refl }
 
 -- distances, and −1 below them all
 abbrev Rd : Float → ℤ → Type 0
-Rd x z = (Val x 2 z × NN z) ⊎ ((x ≡ -1f) × (z ≡ negsuc 0))
+Rd x z = (Val x 2 z × NN z) ⊎ ((x ≡ minusOne) × (z ≡ negsuc 0))
 
 abbrev R : Float → ℤ → Type 0
 R x z = Val x 2 z

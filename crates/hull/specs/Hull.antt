@@ -9,7 +9,7 @@ use lib.Ieee.{Float, binary32, lt, eq}
 use Rattle.ieee.specs.Ops.{before}
 use Rattle.ieee.specs.Cross.{cross, d2}
 use Rattle.whole.specs.Wrap.{Tests, wrap}
-use Rattle.hull.specs.Points.{0f, xAt, yAt, floatsOf}
+use Rattle.hull.specs.Points.{0f, many, xAt, yAt, pointsAt, floatsOf}
 
 -- The turn from point o over a to b, and the squared distance of a and b.
 unfoldable pub crossAt : List Float → ℕ → ℕ → ℕ → Float
@@ -37,6 +37,10 @@ hullTests l = record { bet = betterAt l; low = lowerAt l; eq = sameAt l }
 -- The numbers in the list of the hull's vertices, of n points.
 unfoldable pub hullOf : List Float → ℕ → List ℕ
 hullOf l n = wrap (hullTests l) n
+
+-- The hull of a list of points: the numbers of its vertices.
+abbrev pub hullFloats : List Float → List Float
+hullFloats l = pointsAt l (hullOf l (many l))
 
 -- The hull of points in doubled coordinates.
 unfoldable pub hullPoints : List (ℕ × ℕ) → List (ℕ × ℕ)

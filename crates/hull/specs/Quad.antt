@@ -7,16 +7,16 @@ use Prim.Native.Nat.{ℕ}
 use lib.ListN.{length, getD}
 use lib.Ieee.{Float, binary32, ofBits, add, sub, mul, lt, le}
 use Rattle.whole.specs.Wrap.{Ops, iquad}
-use Rattle.hull.specs.Points.{0f, xAt, yAt, floatsOf}
+use Rattle.hull.specs.Points.{0f, many, xAt, yAt, pointsAt, floatsOf}
 use Rattle.hull.specs.Hull.{crossAt, d2At}
-use Rattle.hull.specs.declared.Point.{Point}
-use Rattle.hull.specs.declared.Quad.{Quad}
-use Rattle.hull.specs.declared.Corners.{Corners}
-use Rattle.hull.specs.declared.Corners.the-variants.{Found, NoQuad}
+use Rattle.hull.specs.declared.points.Point.{Point}
+use Rattle.hull.specs.declared.points.Quad.{Quad}
+use Rattle.hull.specs.declared.points.Corners.{Corners}
+use Rattle.hull.specs.declared.points.Corners.the-variants.{Found, NoQuad}
 
 -- The number -1 as an f32, below every squared distance.
-abbrev pub -1f : Float
--1f = ofBits binary32 0xbf80_0000
+abbrev pub minusOne : Float
+minusOne = ofBits binary32 0xbf80_0000
 
 -- A term of the area, and the area of a b c d twice, summed from its first term.
 unfoldable pub laceAt : List Float → ℕ → ℕ → Float
@@ -27,11 +27,15 @@ areaAt l a b c d = add binary32 (add binary32 (add binary32 (laceAt l a b) (lace
 
 -- What the search for the quad reads. The corners go the other way round where the area is not at least 0, as a NaN is not.
 abbrev pub quadOps : List Float → Ops Float
-quadOps l = record { low = -1f; nil = 0f; less = lt; d = d2At l; side = crossAt l; quadArea = areaAt l; back = λ z. not (le 0f z) }
+quadOps l = record { low = minusOne; nil = 0f; less = lt; d = d2At l; side = crossAt l; quadArea = areaAt l; back = λ z. not (le 0f z) }
 
 -- The numbers in the list of the quad's corners, of n vertices; none where there is no quad.
 unfoldable pub quadOf : List Float → ℕ → List ℕ
 quadOf l n = iquad (quadOps l) n
+
+-- The quad of a list of vertices: the numbers of its corners.
+abbrev pub quadFloats : List Float → List Float
+quadFloats l = pointsAt l (quadOf l (many l))
 
 -- The quad of vertices in doubled coordinates.
 unfoldable pub quadPoints : List (ℕ × ℕ) → List (ℕ × ℕ)
