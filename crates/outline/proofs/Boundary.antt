@@ -170,13 +170,17 @@ module _ (q : Pt) (k w h : ℕ) (t u : ℕ → ℕ → Bool) (b : Box) (in′ : 
       often-boundary (mirror (pos (2 * w)) q) k u (boxM w b)
       ∙ ap₂ (λ (x y : ℕ). x + y)
       (fold-ext _+_ 0 (b .y1 - b .y0) _ (λ j. often q (ptsOf (rowPoints k t (b .x0) (b .x1 - b .x0) (b .y0 + j)))) rows)
-      (ap (λ (n : ℕ). sumTo n (λ i. often (mirror (pos (2 * w)) q) (ptsOf (columnPoints k u (boxM w b .y0) (boxM w b .y1 - boxM w b .y0) (w - b .x1 + i))))) (sym side)
-      ∙ fold-ext _+_ 0 (b .x1 - b .x0) _ (λ i. often q (ptsOf (columnPoints k t (b .y0) (b .y1 - b .y0) (b .x0 + (b .x1 - b .x0 - 1 - i))))) columns
+      (ap (λ (n : ℕ). sumTo n
+      (λ i. often (mirror (pos (2 * w)) q) (ptsOf (columnPoints k u (boxM w b .y0) (boxM w b .y1 - boxM w b .y0) (w - b .x1 + i)))))
+      (sym side)
+      ∙ fold-ext _+_ 0 (b .x1 - b .x0) _
+      (λ i. often q (ptsOf (columnPoints k t (b .y0) (b .y1 - b .y0) (b .x0 + (b .x1 - b .x0 - 1 - i))))) columns
       ∙ fold-reverse _+_ 0 add-comm add-assoc (b .x1 - b .x0) (λ i. often q (ptsOf (columnPoints k t (b .y0) (b .y1 - b .y0) (b .x0 + i)))))
       ∙ sym (often-boundary q k t b)
     where
       rows : (j : ℕ) → j < b .y1 - b .y0
-          → often (mirror (pos (2 * w)) q) (ptsOf (rowPoints k u (boxM w b .x0) (boxM w b .x1 - boxM w b .x0) (b .y0 + j))) ≡ often q (ptsOf (rowPoints k t (b .x0) (b .x1 - b .x0) (b .y0 + j)))
+          → often (mirror (pos (2 * w)) q) (ptsOf (rowPoints k u (boxM w b .x0) (boxM w b .x1 - boxM w b .x0) (b .y0 + j)))
+          ≡ often q (ptsOf (rowPoints k t (b .x0) (b .x1 - b .x0) (b .y0 + j)))
       rows j l =
           ap (λ (n : ℕ). often (mirror (pos (2 * w)) q)
           (ptsOf (map (across (2 * (b .y0 + j) + 1)) (edges k n (λ i. u (w - b .x1 + i) (b .y0 + j)) (w - b .x1))))) (sym side)

@@ -5,3 +5,9 @@ pub mod Rounds
 pub mod Outlines
 pub mod Members
 pub mod Controls
+pub mod Skips
+pub mod Scans
+pub mod Cuts
+pub mod Writes
+pub mod Doors
+pub mod Sweeps

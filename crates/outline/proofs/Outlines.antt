@@ -74,7 +74,8 @@ edge-le k n t s e m = go (ltb (runStart k n t) n) m
 pub boundary-within : (k w h : ℕ) (t : ℕ → ℕ → Bool) (b : Box) → Within b w h → (q : ℕ × ℕ) → List·Memᴰ q (boundary k t b)
     → (q .0 ≤ 2 * w) × (q .1 ≤ 2 * h)
 unfolding boundary rowsFrom columnsFrom rowPoints columnPoints
-boundary-within k w h t b in′ q m = go (List·Memᴰ·append-cases (joined (b .y1 - b .y0) (λ j. rowPoints k t (b .x0) (b .x1 - b .x0) (b .y0 + j))) m)
+boundary-within k w h t b in′ q m =
+    go (List·Memᴰ·append-cases (joined (b .y1 - b .y0) (λ j. rowPoints k t (b .x0) (b .x1 - b .x0) (b .y0 + j))) m)
   where
     far : (x0 x1 w e : ℕ) → x0 ≤ x1 → x1 ≤ w → e ≤ 2 * (x0 + (x1 - x0)) → e ≤ 2 * w
     far x0 x1 w e a c d = omega arith

@@ -40,7 +40,8 @@ across y x = (x, y)
 abbrev pub down : ℕ → ℕ → ℕ × ℕ
 down x y = (x, y)
 
--- The points of row y, of which n pixels from x0 on are looked at, and of column x, of which n pixels from y0 on are; t says which pixels are
+-- The points of row y, of which n pixels from x0 on are looked at, and of column x, of which n pixels from y0 on are; t says which pixels
+-- are
 -- members.
 unfoldable pub rowPoints : ℕ → (ℕ → ℕ → Bool) → ℕ → ℕ → ℕ → List (ℕ × ℕ)
 rowPoints k t x0 n y = map (across (2 * y + 1)) (edges k n (λ i. t (x0 + i) y) x0)
