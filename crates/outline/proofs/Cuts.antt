@@ -12,7 +12,7 @@ use borrow.Author.Tests.{le-ltb}
 use Rattle.laws.specs.Plane.{plane}
 use Rattle.levels.specs.Level.{cells}
 use Rattle.regions.specs.Cells.{cells8}
-use Rattle.outline.specs.Boundary.{counts, memberOf, memberAt}
+use Rattle.boundary.specs.Boundary.{counts, memberOf, memberAt}
 use Rattle.outline.specs.Scan.{cutOf, Grids}
 
 pub small-mul : (a b : ℕ) → a ≤ 512 → b ≤ 512 → a * b ≤ 262144

@@ -15,7 +15,7 @@ use Rattle.laws.specs.Move.{Box}
 use Rattle.laws.proofs.Bools.{and-left, and-right}
 use Rattle.levels.specs.Level.{cells}
 use Rattle.regions.specs.Cells.{cells8}
-use Rattle.outline.specs.Boundary.{rowsFrom, columnsFrom, boundary}
+use Rattle.boundary.specs.Boundary.{rowsFrom, columnsFrom, boundary}
 use Rattle.outline.specs.Door.{isSide, isPart, gridsFit, checkOutline, answered, listAfter}
 use Rattle.outline.specs.Scan.{Grids, Wrote}
 use Rattle.outline.specs.declared.Answer.the-variants.{Points, Refused}

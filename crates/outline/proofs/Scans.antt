@@ -12,9 +12,9 @@ use lib.Dec.{ltb}
 use borrow.Author.Tests.{le-leb, lt-leb, eq-eqb, ne-eqb, lt-ltb, ltb-true}
 use Rattle.laws.proofs.Bools.{clash, falsely, le-or-lt}
 use Rattle.laws.proofs.Folds.{first-at, first-none}
-use Rattle.outline.specs.Runs.{inRun, runStart, runEnd}
+use Rattle.boundary.specs.Runs.{inRun, runStart, runEnd}
 use Rattle.outline.specs.Scan.{scan, scanStep}
-use Rattle.outline.proofs.Runs.{run-of, run-at, start-mirror, both-ends, run-end-le}
+use Rattle.boundary.proofs.Runs.{run-of, run-at, start-mirror, both-ends, run-end-le}
 
 -- k members in a row from a on
 abbrev pub Solid : (ℕ → Bool) → ℕ → ℕ → Type 0

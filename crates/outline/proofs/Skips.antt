@@ -12,11 +12,11 @@ use lib.Dec.{ltb}
 use borrow.Author.Tests.{lt-ltb, le-ltb}
 use Rattle.laws.proofs.Bools.{clash, falsely, le-or-lt}
 use Rattle.laws.proofs.Folds.{first-at, first-none}
-use Rattle.outline.specs.Runs.{inRun, runStart, runEnd, edges}
-use Rattle.outline.specs.Boundary.{across, rowPoints}
+use Rattle.boundary.specs.Runs.{inRun, runStart, runEnd, edges}
+use Rattle.boundary.specs.Boundary.{across, rowPoints}
 use Rattle.outline.specs.Scan.{rowLine, extremesOf, skipOf}
 use Rattle.outline.specs.declared.rows.Extremes.the-variants.{Ends, NoRun}
-use Rattle.outline.proofs.Runs.{IsRun, run-of, run-at, start-mirror, start-le, run-end-le}
+use Rattle.boundary.proofs.Runs.{IsRun, run-of, run-at, start-mirror, start-le, run-end-le}
 
 -- no run of 4 in a line of n pixels starts before k
 pub record Clear (t : ℕ → Bool) (n k : ℕ) : Type 0 where

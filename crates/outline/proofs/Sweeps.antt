@@ -15,8 +15,8 @@ use lib.ListN.{length, getD, set, drop, take, length-set, length-take, length-dr
 use lib.Seq.{getD-set-same, getD-set-other, getD-take, getD-drop}
 use borrow.Author.Tests.{le-leb, lt-leb, lt-ltb, le-ltb}
 use Rattle.laws.proofs.Bools.{le-or-lt}
-use Rattle.outline.specs.Runs.{runStart, runEnd, edges}
-use Rattle.outline.specs.Boundary.{memberAt, joined, down, columnPoints, columnsFrom}
+use Rattle.boundary.specs.Runs.{runStart, runEnd, edges}
+use Rattle.boundary.specs.Boundary.{memberAt, joined, down, columnPoints, columnsFrom}
 use Rattle.outline.specs.Scan.{toward, columnLine, scanStep, scan, columnFound, columnsFound, cutOf, CutRow, Stepped, Swept, AtMost}
 use Rattle.outline.proofs.Scans.{scan-begin, scan-more, scan-le, scan-stays, start-found, start-none, end-found}
 use Rattle.outline.proofs.Cuts.{member-cut}

@@ -22,8 +22,8 @@ use lib.Ieee.Exact.{HasValue}
 use Rattle.laws.proofs.Stores.{sets-append, map-append, laid-is}
 use Rattle.ieee.proofs.Vals.{mul-round}
 use Rattle.hull.specs.Points.{halfOf, numbersOf, floatsOf, laid}
-use Rattle.outline.specs.Runs.{runStart, runEnd, edges}
-use Rattle.outline.specs.Boundary.{joined, rowPoints, columnPoints, rowsFrom, columnsFrom}
+use Rattle.boundary.specs.Runs.{runStart, runEnd, edges}
+use Rattle.boundary.specs.Boundary.{joined, rowPoints, columnPoints, rowsFrom, columnsFrom}
 use Rattle.outline.specs.Scan.{columnFound, put, Wrote}
 
 -- ---- lists one after the other

@@ -1,7 +1,7 @@
 // Thresholds and labels of the cells that a pixel lies in.
 ghost use mathlib.Core.Path.{_≡_};
 ghost use Prim.Native.Nat.{_+_, _/_, _<_, _≤_};
-ghost use Rattle.outline.specs.Boundary.{counts as Counts};
+ghost use Rattle.boundary.specs.Boundary.{counts as Counts};
 ghost use Rattle.outline.specs.Scan.{toward, cutOf, Grids};
 
 // Place k of the n places from a on, from either end.

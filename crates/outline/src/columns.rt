@@ -6,7 +6,7 @@ use crate::sweep::scan_columns;
 ghost use mathlib.Core.Path.{_≡_};
 ghost use Prim.Native.Nat.{_+_, _-_, _*_, _<_, _≤_};
 ghost use lib.ListN.{length};
-ghost use Rattle.outline.specs.Boundary.{memberAt, columnsFrom, boundary};
+ghost use Rattle.boundary.specs.Boundary.{memberAt, columnsFrom, boundary};
 ghost use Rattle.outline.specs.Door.{boxAt};
 ghost use Rattle.outline.specs.Scan.{Grids, columnFound, columnsFound, AtMost, Wrote};
 

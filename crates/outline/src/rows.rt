@@ -8,8 +8,8 @@ ghost use mathlib.Core.Path.{_≡_};
 ghost use mathlib.Core.Bool.{false};
 ghost use Prim.Native.Nat.{_+_, _*_, _<_, _≤_};
 ghost use lib.ListN.{length};
-ghost use Rattle.outline.specs.Runs.{runStart};
-ghost use Rattle.outline.specs.Boundary.{memberAt, rowPoints, rowsFrom};
+ghost use Rattle.boundary.specs.Runs.{runStart};
+ghost use Rattle.boundary.specs.Boundary.{memberAt, rowPoints, rowsFrom};
 ghost use Rattle.outline.specs.Scan.{rowLine, extremesOf, skipOf, Grids, Wrote};
 
 // Start of the first and end of the last run, or none.

@@ -9,7 +9,7 @@ ghost use mathlib.Core.Bool.{true, false};
 ghost use Prim.Native.Nat.{ℕ, _+_, _*_, _/_, _<_, _≤_};
 ghost use lib.Dec.{ltb};
 ghost use lib.ListN.{getD, length};
-ghost use Rattle.outline.specs.Boundary.{memberAt};
+ghost use Rattle.boundary.specs.Boundary.{memberAt};
 ghost use Rattle.outline.specs.Scan.{scanStep, Grids, CutRow, Stepped, Swept};
 
 // One pixel p more of a column, with the threshold t.

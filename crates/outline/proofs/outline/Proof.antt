@@ -6,7 +6,7 @@ use native.Mathlib.Omega.{arith}
 use lib.ListN.{length}
 use denote.Ref.{now}
 use borrow.Author.Needs.{needs}
-use Rattle.outline.specs.Boundary.{memberAt}
+use Rattle.boundary.specs.Boundary.{memberAt}
 use Rattle.outline.specs.Door.{checkOutline, boxAt, doorPoints}
 use Rattle.outline.specs.declared.Answer.the-variants.{Refused}
 use Rattle.outline.proofs.Doors.{passed, passed-grids, points-le, done-answer, done-list, refused-answer, refused-list}

@@ -5,7 +5,7 @@ use Prim.Native.Nat.{_-_, _≤_}
 use native.Mathlib.Omega.{arith}
 use denote.Ref.{now}
 use borrow.Author.Needs.{needs}
-use Rattle.outline.specs.Boundary.{memberAt, columnsFrom}
+use Rattle.boundary.specs.Boundary.{memberAt, columnsFrom}
 use Rattle.outline.specs.Scan.{Wrote}
 use Rattle.outline.proofs.Writes.{strip-begin, strip-more, room-strip, wrote-length}
 use Rattle.outline.proofs.columns.all_columns.Statement.{statement}

@@ -3,7 +3,7 @@ use Prim.Native.Nat.{_-_}
 use native.Mathlib.Omega.{arith}
 use denote.Ref.{now}
 use borrow.Author.Needs.{needs}
-use Rattle.outline.specs.Boundary.{memberAt, boundary}
+use Rattle.boundary.specs.Boundary.{memberAt, boundary}
 use Rattle.outline.proofs.Writes.{wrote-append, wrote-length, rows-le}
 use Rattle.outline.proofs.columns.boundary_points.Statement.{statement}
 use Rattle.outline.proofs.columns.boundary_points.Tie as tie

@@ -3,7 +3,7 @@ use mathlib.Core.Bool.{true, false}
 use native.Mathlib.Omega.{arith}
 use denote.Ref.{now}
 use borrow.Author.Needs.{needs}
-use Rattle.outline.specs.Boundary.{memberAt, columnsFrom}
+use Rattle.boundary.specs.Boundary.{memberAt, columnsFrom}
 use Rattle.outline.proofs.Sweeps.{swept-begin, swept-most, columns-are, columns-none}
 use Rattle.outline.proofs.Writes.{wrote-none, wrote-ext}
 use Rattle.outline.proofs.columns.strip.Statement.{statement}

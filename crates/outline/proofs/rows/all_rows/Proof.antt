@@ -5,7 +5,7 @@ use Prim.Native.Nat.{_+_, _-_, _≤_}
 use native.Mathlib.Omega.{arith}
 use denote.Ref.{now}
 use borrow.Author.Needs.{needs}
-use Rattle.outline.specs.Boundary.{memberAt, rowPoints, rowsFrom}
+use Rattle.boundary.specs.Boundary.{memberAt, rowPoints, rowsFrom}
 use Rattle.outline.specs.Scan.{Wrote}
 use Rattle.outline.proofs.Writes.{put-begin, put-more, room-more, row-two, wrote-length}
 use Rattle.outline.proofs.rows.all_rows.Statement.{statement}

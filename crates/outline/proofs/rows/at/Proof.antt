@@ -3,7 +3,7 @@ use mathlib.Core.Path.{ap, _∙_}
 use Prim.Native.Nat.{ℕ}
 use denote.Ref.{now}
 use borrow.Author.Needs.{needs}
-use Rattle.outline.specs.Boundary.{memberAt}
+use Rattle.boundary.specs.Boundary.{memberAt}
 use Rattle.outline.specs.Scan.{rowLine}
 use Rattle.outline.proofs.rows.at.Statement.{statement}
 use Rattle.outline.proofs.rows.at.Tie as tie

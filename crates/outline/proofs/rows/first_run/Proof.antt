@@ -5,7 +5,7 @@ use Prim.Native.Nat.{_-_, _≤_}
 use native.Mathlib.Omega.{arith}
 use denote.Ref.{now}
 use borrow.Author.Needs.{needs}
-use Rattle.outline.specs.Boundary.{memberAt}
+use Rattle.boundary.specs.Boundary.{memberAt}
 use Rattle.outline.specs.Scan.{rowLine}
 use Rattle.outline.proofs.Skips.{Clear, clear-begin, clear-turn, clear-found, clear-end}
 use Rattle.outline.proofs.rows.first_run.Statement.{statement}

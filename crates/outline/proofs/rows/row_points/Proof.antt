@@ -3,7 +3,7 @@ use mathlib.Core.Path.{sym, _∙_}
 use native.Mathlib.Omega.{arith}
 use denote.Ref.{now}
 use borrow.Author.Needs.{needs}
-use Rattle.outline.specs.Boundary.{memberAt}
+use Rattle.boundary.specs.Boundary.{memberAt}
 use Rattle.outline.proofs.Skips.{extremes-le, row-some, row-none}
 use Rattle.outline.proofs.Writes.{wrote-none, wrote-ext}
 use Rattle.outline.proofs.rows.row_points.Statement.{statement}

@@ -2,7 +2,7 @@
 use native.Mathlib.Omega.{arith}
 use denote.Ref.{now}
 use borrow.Author.Needs.{needs}
-use Rattle.outline.specs.Boundary.{memberAt}
+use Rattle.boundary.specs.Boundary.{memberAt}
 use Rattle.outline.proofs.Skips.{extremes-some, extremes-none}
 use Rattle.outline.proofs.rows.run_extremes.Statement.{statement}
 use Rattle.outline.proofs.rows.run_extremes.Tie as tie

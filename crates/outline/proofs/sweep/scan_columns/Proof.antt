@@ -6,7 +6,7 @@ use native.Mathlib.Nat.{mul-le-mul}
 use native.Mathlib.Omega.{arith}
 use denote.Ref.{now}
 use borrow.Author.Needs.{needs}
-use Rattle.outline.specs.Boundary.{memberAt}
+use Rattle.boundary.specs.Boundary.{memberAt}
 use Rattle.outline.specs.Scan.{Swept, CutRow}
 use Rattle.outline.proofs.Cuts.{row-within}
 use Rattle.outline.proofs.Sweeps.{part-turn, swept-early}

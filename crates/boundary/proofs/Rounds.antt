@@ -33,7 +33,7 @@ use Rattle.whole.proofs.Moved.{
 }
 use Rattle.whole.proofs.Quads.{quad-turned, quad-mirrored}
 use Rattle.whole.proofs.Final.{rot-same, rot-length, rev-same}
-use Rattle.outline.specs.Moved.{often, pointOf, movedRound}
+use Rattle.boundary.specs.Moved.{often, pointOf, movedRound}
 
 -- ---- points that are there
 pub mem-often : {q : Pt} {l : List Pt} → Mem q l → 0 < often q l

@@ -10,7 +10,7 @@ use borrow.Author.Tests.{lt-ltb, ltb-true, le-leb, leb-true, le-ltb, ltb-false}
 use Rattle.laws.specs.Fold.{first, endOf}
 use Rattle.laws.proofs.Bools.{both, and-left, and-right, either, or-left, or-right, which, clash, at-or-below, bool-ext}
 use Rattle.laws.proofs.Folds.{first-le, first-ext, first-holds, first-below, first-turn, end-le, end-ext, end-above, end-holds}
-use Rattle.outline.specs.Runs.{some, every, runAt, inRun, runStart, runEnd, edges}
+use Rattle.boundary.specs.Runs.{some, every, runAt, inRun, runStart, runEnd, edges}
 
 pub some-of : (n : ℕ) (t : ℕ → Bool) (a : ℕ) → a < n → t a ≡ true → some n t ≡ true
 unfolding some

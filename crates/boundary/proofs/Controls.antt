@@ -17,13 +17,13 @@ use Rattle.whole.specs.Hull.{range, samePt}
 use Rattle.whole.specs.Moves.{mirror}
 use Rattle.whole.proofs.Final.{rot-same}
 use Rattle.whole.specs.Wrap.{sel, lst, nxt, wlk, wrap, keep, fars, ends, iquad}
-use Rattle.outline.specs.Runs.{some, every, runAt, inRun, runStart, runEnd, edges}
-use Rattle.outline.specs.Boundary.{joined, rowPoints, columnPoints, rowsFrom, columnsFrom, boundary}
+use Rattle.boundary.specs.Runs.{some, every, runAt, inRun, runStart, runEnd, edges}
+use Rattle.boundary.specs.Boundary.{joined, rowPoints, columnPoints, rowsFrom, columnsFrom, boundary}
 use Rattle.hull.specs.Points.{ptOf, ptsOf, halfOf, numbersOf, floatsOf}
-use Rattle.outline.specs.Moved.{often, pointOf, movedRound}
+use Rattle.boundary.specs.Moved.{often, pointOf, movedRound}
 use Rattle.hull.specs.Hull.{crossAt, d2At, betterAt, lowerAt, sameAt, hullOf, hullPoints}
 use Rattle.hull.specs.Quad.{laceAt, areaAt, quadOf, quadPoints}
-use Rattle.outline.proofs.Rounds.{mem-often}
+use Rattle.boundary.proofs.Rounds.{mem-often}
 
 -- a line of 10 pixels with members from 2 to 2 + n
 from2 : ℕ → ℕ → Bool

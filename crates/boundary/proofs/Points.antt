@@ -18,10 +18,10 @@ use Rattle.regions.specs.Kept.{keptCount, keptLabel, keptAt}
 use Rattle.regions.specs.Boxes.{regionBox}
 use Rattle.regions.proofs.Kept.{Untied}
 use Rattle.regions.proofs.Regions.{region-of, region-cell, region-in, box-of}
-use Rattle.outline.specs.Boundary.{memberOf, isMember, boundary, outlineOf}
+use Rattle.boundary.specs.Boundary.{memberOf, isMember, boundary, outlineOf}
 use Rattle.hull.specs.Points.{ptsOf}
-use Rattle.outline.specs.Moved.{often, pointOf}
-use Rattle.outline.proofs.Boundary.{Within, boundary-move}
+use Rattle.boundary.specs.Moved.{often, pointOf}
+use Rattle.boundary.proofs.Boundary.{Within, boundary-move}
 
 -- with one label wanted, a member's label is that one
 only : (L k : ℕ) → (not (eqb L 0) && (eqb (suc k) 0 || eqb L (suc k))) ≡ eqb L (suc k)

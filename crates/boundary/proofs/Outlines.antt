@@ -21,8 +21,8 @@ use Rattle.regions.specs.Kept.{keptCount, keptLabel}
 use Rattle.regions.specs.Boxes.{regionBox}
 use Rattle.regions.proofs.Kept.{Untied}
 use Rattle.regions.proofs.Regions.{box-of}
-use Rattle.outline.specs.Runs.{runStart, runEnd, edges}
-use Rattle.outline.specs.Boundary.{
+use Rattle.boundary.specs.Runs.{runStart, runEnd, edges}
+use Rattle.boundary.specs.Boundary.{
   isMember,
   joined,
   across,
@@ -35,15 +35,15 @@ use Rattle.outline.specs.Boundary.{
   outlineOf,
 }
 use Rattle.hull.specs.Points.{ptOf, ptsOf, numbersOf, floatsOf, Small}
-use Rattle.outline.specs.Moved.{pointOf, movedRound}
+use Rattle.boundary.specs.Moved.{pointOf, movedRound}
 use Rattle.hull.specs.Hull.{hullOf, hullPoints}
 use Rattle.hull.specs.Quad.{quadPoints}
-use Rattle.outline.proofs.Runs.{start-le, run-end-le}
-use Rattle.outline.proofs.Boundary.{Within, box-within}
-use Rattle.outline.proofs.Points.{points-of, region-within}
+use Rattle.boundary.proofs.Runs.{start-le, run-end-le}
+use Rattle.boundary.proofs.Boundary.{Within, box-within}
+use Rattle.boundary.proofs.Points.{points-of, region-within}
 use Rattle.hull.proofs.Exact.{at, small-at, hull-exact, length-pts}
 use Rattle.hull.proofs.QuadExact.{quad-exact}
-use Rattle.outline.proofs.Rounds.{same-of, hull-round, quad-round}
+use Rattle.boundary.proofs.Rounds.{same-of, hull-round, quad-round}
 
 -- ---- how large coordinates are
 joined-mem : {A : Type 0} (n : ℕ) (f : ℕ → List A) (q : A) → List·Memᴰ q (joined n f) → (i : ℕ) × (i < n) × List·Memᴰ q (f i)

@@ -5,7 +5,7 @@ use native.Mathlib.Omega.{arith}
 use Rattle.laws.specs.Plane.{Plane, Alike}
 use Rattle.levels.specs.Level.{cells, level}
 use Rattle.regions.specs.Cells.{cells8, labelAt}
-use Rattle.outline.specs.Boundary.{memberOf, isMember}
+use Rattle.boundary.specs.Boundary.{memberOf, isMember}
 
 -- `levels` and `labels` are what the door's lists hold, as planes.
 pub member-lists : (p : Plane) (w h want : ℕ) (levels labels : Plane)

@@ -10,7 +10,7 @@ use Rattle.laws.specs.Move.{Box}
 use Rattle.levels.specs.Level.{cells, level}
 use Rattle.regions.specs.Cells.{cells8, labelAt}
 use Rattle.regions.specs.Boxes.{regionBox}
-use Rattle.outline.specs.Runs.{edges}
+use Rattle.boundary.specs.Runs.{edges}
 
 -- A label counts: it is not 0 and, where one label is wanted, is that one. The label 0 wants any.
 abbrev pub counts : ℕ → ℕ → Bool

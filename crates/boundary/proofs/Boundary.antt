@@ -20,11 +20,11 @@ use Rattle.whole.specs.Moves.{quarter, mirror}
 use Rattle.whole.proofs.Sums.{sub-nat}
 use Rattle.whole.proofs.Run.{same-true, same-refl}
 use Rattle.whole.proofs.Moved.{flips-mirror, inj}
-use Rattle.outline.specs.Runs.{runStart, runEnd, edges}
-use Rattle.outline.specs.Boundary.{joined, across, down, rowPoints, columnPoints, rowsFrom, columnsFrom, boundary}
+use Rattle.boundary.specs.Runs.{runStart, runEnd, edges}
+use Rattle.boundary.specs.Boundary.{joined, across, down, rowPoints, columnPoints, rowsFrom, columnsFrom, boundary}
 use Rattle.hull.specs.Points.{ptOf, ptsOf}
-use Rattle.outline.specs.Moved.{often, pointOf}
-use Rattle.outline.proofs.Runs.{start-mirror, end-mirror, both-ends, start-le, run-end-le, edges-ext}
+use Rattle.boundary.specs.Moved.{often, pointOf}
+use Rattle.boundary.proofs.Runs.{start-mirror, end-mirror, both-ends, start-le, run-end-le, edges-ext}
 
 -- ---- how often
 pub often-append : (q : Pt) (l k : List Pt) → often q (l ++ k) ≡ often q l + often q k
