@@ -23,7 +23,7 @@ use Rattle.whole.proofs.Moved.{flips-mirror, inj}
 use Rattle.boundary.specs.Runs.{runStart, runEnd, edges}
 use Rattle.boundary.specs.Boundary.{joined, across, down, rowPoints, columnPoints, rowsFrom, columnsFrom, boundary}
 use Rattle.hull.specs.Points.{ptOf, ptsOf}
-use Rattle.boundary.specs.Moved.{often, pointOf}
+use Rattle.whole.specs.Moves.{often, pointOf}
 use Rattle.boundary.proofs.Runs.{start-mirror, end-mirror, both-ends, start-le, run-end-le, edges-ext}
 
 -- ---- how often

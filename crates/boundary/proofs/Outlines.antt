@@ -35,7 +35,7 @@ use Rattle.boundary.specs.Boundary.{
   outlineOf,
 }
 use Rattle.hull.specs.Points.{ptOf, ptsOf, numbersOf, floatsOf, Small}
-use Rattle.boundary.specs.Moved.{pointOf, movedRound}
+use Rattle.whole.specs.Moves.{pointOf, movedRound}
 use Rattle.hull.specs.Hull.{hullOf, hullPoints}
 use Rattle.hull.specs.Quad.{quadPoints}
 use Rattle.boundary.proofs.Runs.{start-le, run-end-le}
@@ -43,7 +43,7 @@ use Rattle.boundary.proofs.Boundary.{Within, box-within}
 use Rattle.boundary.proofs.Points.{points-of, region-within}
 use Rattle.hull.proofs.Exact.{at, small-at, hull-exact, length-pts}
 use Rattle.hull.proofs.QuadExact.{quad-exact}
-use Rattle.boundary.proofs.Rounds.{same-of, hull-round, quad-round}
+use Rattle.whole.proofs.Rounds.{same-of, hull-round, quad-round}
 
 -- ---- how large coordinates are
 joined-mem : {A : Type 0} (n : ℕ) (f : ℕ → List A) (q : A) → List·Memᴰ q (joined n f) → (i : ℕ) × (i < n) × List·Memᴰ q (f i)

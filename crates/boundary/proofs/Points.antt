@@ -20,7 +20,7 @@ use Rattle.regions.proofs.Kept.{Untied}
 use Rattle.regions.proofs.Regions.{region-of, region-cell, region-in, box-of}
 use Rattle.boundary.specs.Boundary.{memberOf, isMember, boundary, outlineOf}
 use Rattle.hull.specs.Points.{ptsOf}
-use Rattle.boundary.specs.Moved.{often, pointOf}
+use Rattle.whole.specs.Moves.{often, pointOf}
 use Rattle.boundary.proofs.Boundary.{Within, boundary-move}
 
 -- with one label wanted, a member's label is that one

@@ -51,7 +51,7 @@ use lib.Ieee.Nearest.{closest, closest-same, nearest-ge}
 use lib.Ieee.Scale.{round-same}
 use lib.Ieee.Bits.{cond-no, ofBits-toBits, nanBits-is, nanBits-above}
 use Rattle.ieee.specs.Narrow.{narrow}
-use Rattle.ieee.specs.Patterns.{mant64, expo64, dropped, cut64}
+use Rattle.ieee.specs.Patterns.{mant64, expo64, dropped, cut64, narrowBits}
 use Rattle.ieee.proofs.Roots.{compare-lt, compare-gt, compare-eq}
 use Rattle.ieee.proofs.Values.{lt-or-ge, size-exact, decode, units-bits}
 
@@ -305,6 +305,10 @@ no-nan-64 x f n =
 pub no-nan-32 : (n : ℕ) → n % 2147483648 ≤ 2139095040 → T (not (nanBits binary32 n))
 no-nan-32 n h = subst (λ (b : Bool). T (not b)) (sym (nanBits-above binary32 n)) (le→nltb 2139095040 (n % 2147483648) h)
 
+pub no-nan-pattern-64 : (n : ℕ) → n % 9223372036854775808 ≤ 9218868437227405312 → T (not (nanBits binary64 n))
+no-nan-pattern-64 n h =
+    subst (λ (b : Bool). T (not b)) (sym (nanBits-above binary64 n)) (le→nltb 9218868437227405312 (n % 9223372036854775808) h)
+
 pub narrow-nan : (x : Float) → x ≡ nan → nan ≡ narrow x
 narrow-nan x e = at ∙ ap narrow (sym e)
   where
@@ -320,17 +324,95 @@ shl-is t h = shl-exact 1 t 64 (lit< tt) (room t h) ∙ one-mul (2 ^ t)
     room : (t : ℕ) → t < 60 → 1 + t ≤ 64
     room t h = omega arith
 
+-- of a normal result 29 places are cut off: a sum that carries rounds to the nearest, a tie to the even one
+closest-29 : (m : ℕ) → (m + 268435455 + m / 536870912 % 2) / 536870912 ≡ closest m 536870912
+closest-29 m = go (lt-or-ge (m % 536870912 * 2) 536870912) (lt-or-ge 536870912 (m % 536870912 * 2))
+  where
+    under : (m : ℕ) → m % 536870912 * 2 < 536870912 → (m + 268435455 + m / 536870912 % 2) / 536870912 ≡ m / 536870912
+    under m h = omega arith
+
+    over : (m : ℕ) → 536870912 < m % 536870912 * 2 → (m + 268435455 + m / 536870912 % 2) / 536870912 ≡ m / 536870912 + 1
+    over m h = omega arith
+
+    tie : (m : ℕ) → m % 536870912 * 2 ≡ 536870912
+        → (m + 268435455 + m / 536870912 % 2) / 536870912 ≡ m / 536870912 + m / 536870912 % 2
+    tie m h = omega arith
+
+    go : (m % 536870912 * 2 < 536870912) ⊎ (536870912 ≤ m % 536870912 * 2)
+        → (536870912 < m % 536870912 * 2) ⊎ (m % 536870912 * 2 ≤ 536870912)
+        → (m + 268435455 + m / 536870912 % 2) / 536870912 ≡ closest m 536870912
+    go (inl l) r = under m l ∙ closest-below m 536870912 l
+    go (inr g) (inl l) = over m l ∙ closest-above m 536870912 l
+    go (inr g) (inr l) = let e : m % 536870912 * 2 ≡ 536870912 = le-antisymm l g in tie m e ∙ closest-tie m 536870912 e
+
+-- the sum of the whole pattern a: its exponent's places come along
+pub normal-sum : (a : ℕ) → 4039728865751334912 ≤ a → a < 9218868437227405312
+    → (a - 4035225266123964416 + 268435455 + a / 536870912 % 2) / 536870912
+    ≡ dropped a * 8388608 + closest (mant64 a) (2 ^ cut64 a)
+normal-sum a lo hi =
+    whole a lo hi
+    ∙ ap (λ (z : ℕ). dropped a * 8388608 + z) (closest-29 (mant64 a) ∙ ap (λ (t : ℕ). closest (mant64 a) (2 ^ t)) (sym (cut a lo hi)))
+  where
+    cut : (a : ℕ) → 4039728865751334912 ≤ a → a < 9218868437227405312 → cut64 a ≡ 29
+    cut a lo hi = omega arith
+
+    less : (a k m : ℕ) → a ≡ (k + 896) * 4503599627370496 + m → a - 4035225266123964416 ≡ k * 4503599627370496 + m
+    less a k m e = omega arith
+
+    upper : (a k m : ℕ) → a ≡ (k + 896) * 4503599627370496 + m → a / 536870912 ≡ (k + 896) * 8388608 + m / 536870912
+    upper a k m e = omega arith
+
+    parity : (a k m p q : ℕ) → p ≡ (k + 896) * 8388608 + q → p % 2 ≡ q % 2
+    parity a k m p q e = omega arith
+
+    carried : (k m p : ℕ) → (k * 4503599627370496 + m + 268435455 + p) / 536870912 ≡ k * 8388608 + (m + 268435455 + p) / 536870912
+    carried k m p = omega arith
+
+    split : (a k m : ℕ) → a ≡ (k + 896) * 4503599627370496 + m
+        → (a - 4035225266123964416 + 268435455 + a / 536870912 % 2) / 536870912
+        ≡ k * 8388608 + (m + 268435455 + m / 536870912 % 2) / 536870912
+    split a k m e =
+        ap (λ (z : ℕ). (z + 268435455 + a / 536870912 % 2) / 536870912) (less a k m e)
+        ∙ ap (λ (z : ℕ). (k * 4503599627370496 + m + 268435455 + z) / 536870912)
+        (parity a k m (a / 536870912) (m / 536870912) (upper a k m e))
+        ∙ carried k m (m / 536870912 % 2)
+
+    parts : (a : ℕ) → 4039728865751334912 ≤ a → a < 9218868437227405312
+        → a ≡ (dropped a + 896) * 4503599627370496 + mant64 a
+    parts a lo hi = omega arith
+
+    whole : (a : ℕ) → 4039728865751334912 ≤ a → a < 9218868437227405312
+        → (a - 4035225266123964416 + 268435455 + a / 536870912 % 2) / 536870912
+        ≡ dropped a * 8388608 + (mant64 a + 268435455 + mant64 a / 536870912 % 2) / 536870912
+    whole a lo hi = split a (dropped a) (mant64 a) (parts a lo hi)
+
+-- without the sign the digits and the exponent are the same
+pub unsigned : (b : ℕ) → narrowBits (b % 9223372036854775808) ≡ narrowBits b
+unsigned b =
+    ap (λ (z : ℕ). min ((z - 1 - 896) * 8388608
+    + closest (b % 9223372036854775808 % 4503599627370496 + 4503599627370496 * min z 1) (2 ^ (925 + (z - 1 - 896) - (z - 1)))) 2139095040)
+    (field b)
+    ∙ ap (λ (z : ℕ). min (dropped b * 8388608
+    + closest (z + 4503599627370496 * min (b % 9223372036854775808 / 4503599627370496) 1) (2 ^ cut64 b)) 2139095040)
+    (digits b)
+  where
+    field : (b : ℕ) → b % 9223372036854775808 % 9223372036854775808 / 4503599627370496 ≡ b % 9223372036854775808 / 4503599627370496
+    field b = omega arith
+
+    digits : (b : ℕ) → b % 9223372036854775808 % 4503599627370496 ≡ b % 4503599627370496
+    digits b = omega arith
+
 abbrev pub Pattern : ℕ → ℕ → Type 0
 Pattern b r = (r % 2147483648 ≤ 2139095040) × (ofBits binary32 r ≡ narrow (ofBits binary64 b))
 
 pub pattern-finite : (b r : ℕ) → b < 18446744073709551616 → b % 9223372036854775808 < 9218868437227405312
-    → r ≡ min (dropped b * 8388608 + closest (mant64 b) (2 ^ cut64 b)) 2139095040
-    → Pattern b (b / 9223372036854775808 * 2147483648 + r)
-pattern-finite b r w h e = (
-  pattern-in b r (capped r (dropped b * 8388608 + closest (mant64 b) (2 ^ cut64 b)) e),
-  ap (λ (z : ℕ). ofBits binary32 (z + r)) (sign-moved b w)
-      ∙ ap (λ (z : ℕ). ofBits binary32 (cond (leb 9223372036854775808 b) 2147483648 0 + z)) e ∙ sym (narrow-finite b h),
-)
+    → r ≡ narrowBits (b % 9223372036854775808) → Pattern b (b / 9223372036854775808 * 2147483648 + r)
+pattern-finite b r w h e =
+    let is : r ≡ narrowBits b = e ∙ unsigned b in (
+      pattern-in b r (capped r (dropped b * 8388608 + closest (mant64 b) (2 ^ cut64 b)) is),
+      ap (λ (z : ℕ). ofBits binary32 (z + r)) (sign-moved b w)
+          ∙ ap (λ (z : ℕ). ofBits binary32 (cond (leb 9223372036854775808 b) 2147483648 0 + z)) is ∙ sym (narrow-finite b h),
+    )
   where
     capped : (r a : ℕ) → r ≡ min a 2139095040 → r ≤ 2139095040
     capped r a e = omega arith

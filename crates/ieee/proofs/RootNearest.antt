@@ -152,7 +152,8 @@ module _ (N q k m j : ℕ) (Q : 8388608 ≤ q) (M : m < 16777216) (lo : q * q * 
   down-case c = (
     (λ h.
         let g = above-grid q k m j Q M h in
-        let s : (2 * q + 1) * 2 ^ k ≤ q * 2 ^ k + m * 2 ^ j = le-trans (le-of-eq (spread q (2 ^ k))) (join (q * 2 ^ k) (2 ^ k) (m * 2 ^ j) g) in
+        let s : (2 * q + 1) * 2 ^ k ≤ q * 2 ^ k + m * 2 ^ j =
+        le-trans (le-of-eq (spread q (2 ^ k))) (join (q * 2 ^ k) (2 ^ k) (m * 2 ^ j) g) in
         le-trans c (le-trans (le-of-eq (sym (sq-shift (2 * q + 1) k))) (square-mono ((2 * q + 1) * 2 ^ k) (q * 2 ^ k + m * 2 ^ j) s))),
     (λ h.
         let s : q * 2 ^ k + m * 2 ^ j ≤ 2 * q * 2 ^ k =

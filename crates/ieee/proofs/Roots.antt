@@ -288,7 +288,8 @@ root-pattern b n k r p h g lo hi small e =
       fine,
       ap (λ (y : ℕ). ofBits binary32 y) (sym (zero-add (k * 8388608 + nearRoot n)))
           ∙ sym (units-bits false (nearRoot n) k (w .1) (λ _. w .0) fine)
-          ∙ sym (sqrt-is (ofBits binary32 b) (mant b * 2 ^ expo b) n k (isqrt n) (value32 b h) (mul-pos (mant-pos b p h) (pow-pos (expo b))) g
+          ∙ sym (sqrt-is (ofBits binary32 b) (mant b * 2 ^ expo b) n k (isqrt n) (value32 b h)
+          (mul-pos (mant-pos b p h) (pow-pos (expo b))) g
           (isqrt-is n) (z .0) (z .1)),
     )
   where

@@ -29,9 +29,9 @@ unfoldable pub before : Float → Float → Bool
 unfolding isNan lt sign
 before x y = cond (isNan x) false (cond (isNan y) true (cond (lt x y) true (cond (lt y x) false (sign x && not (sign y)))))
 
--- x is not -0
+-- x is neither a NaN nor -0
 abbrev pub plain : Float → Bool
-plain nan = true
+plain nan = false
 plain (inf s) = true
 plain (fin false m e) = true
 plain (fin true zero e) = false

@@ -1,6 +1,7 @@
 -- A finite value's bit pattern b taken apart, as IEEE 754's binary formats have it: digits times a power of two smallest values.
 -- Definitions only. Assumes nothing.
-use Prim.Native.Nat.{ℕ, min, _+_, _-_, _*_, _/_, _%_}
+use Prim.Native.Nat.{ℕ, min, _+_, _-_, _*_, _/_, _%_, _^_}
+use lib.Ieee.Nearest.{closest}
 
 -- the digits of an `f32`, with the leading one of a value that is not subnormal
 abbrev pub mant : ℕ → ℕ
@@ -25,3 +26,7 @@ dropped b = expo64 b - 896
 -- how many of the digits of an `f64` lie below the last of the nearest `f32`
 abbrev pub cut64 : ℕ → ℕ
 cut64 b = 925 + dropped b - expo64 b
+
+-- the pattern, without its sign, of the nearest `f32` to a finite `f64`; from 0x7f80_0000 on it is an infinity's
+abbrev pub narrowBits : ℕ → ℕ
+narrowBits b = min (dropped b * 8388608 + closest (mant64 b) (2 ^ cut64 b)) 2139095040

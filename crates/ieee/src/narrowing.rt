@@ -5,7 +5,7 @@ ghost use lib.Ieee as Ieee;
 ghost use lib.Ieee.{binary32, binary64};
 ghost use lib.Ieee.Nearest.{closest};
 ghost use Rattle.ieee.specs.Narrow.{narrow};
-ghost use Rattle.ieee.specs.Patterns.{mant64, expo64, dropped, cut64};
+ghost use Rattle.ieee.specs.Patterns.{mant64, expo64, narrowBits};
 
 // The digits of a finite f64's pattern, with the leading one.
 fn digits64(b: u64) -> u64
@@ -60,20 +60,33 @@ fn kept(m: u64, t: u64) -> u64
     requires { ⌜ m < 9007199254740992 ⌝ }
     ensures { λ r. ⌜ r ≡ closest m (2 ^ t) ⌝ }
 {
-    if t == 29 {
-        return nearest_div(m, 0x2000_0000);
-    }
     if t < 60 { nearest_div(m, 1u64 << t) } else { 0 }
 }
 
 // The pattern of a finite value, without its sign.
-fn finite_bits(b: u64) -> u32
-    ensures { λ r. ⌜ r ≡ min (dropped b * 8388608 + closest (mant64 b) (2 ^ cut64 b)) 2139095040 ⌝ }
+fn any_bits(b: u64) -> u32
+    ensures { λ r. ⌜ r ≡ narrowBits b ⌝ }
 {
     let e = place64(b);
     let k = above(e);
     let q = kept(digits64(b), 925 + k - e);
     let p = k * 0x80_0000 + q;
+    if p < 0x7f80_0000 {
+        p as u32
+    } else {
+        0x7f80_0000
+    }
+}
+
+// The same in one sum, where the value is not below the least normal f32, 2^-126: the exponents of
+// the formats differ by 896, and of the 29 places cut off half of the last one kept, less one where
+// that one is even, carries into it.
+fn normal_bits(a: u64) -> u32
+    requires { ⌜ 4039728865751334912 ≤ a ⌝ }
+    requires { ⌜ a < 9218868437227405312 ⌝ }
+    ensures { λ r. ⌜ r ≡ narrowBits a ⌝ }
+{
+    let p = (a - 0x3800_0000_0000_0000 + 0x0fff_ffff + a / 0x2000_0000 % 2) / 0x2000_0000;
     if p < 0x7f80_0000 {
         p as u32
     } else {
@@ -88,9 +101,12 @@ pub fn narrow_bits(b: u64) -> u32
         × (Ieee.ofBits binary32 r ≡ narrow (Ieee.ofBits binary64 b)) ⌝ }
 {
     let sign = (b / 0x8000_0000_0000_0000) as u32 * 0x8000_0000;
-    if b % 0x8000_0000_0000_0000 < 0x7ff0_0000_0000_0000 {
-        sign + finite_bits(b)
-    } else {
-        sign + 0x7f80_0000
+    let a = b % 0x8000_0000_0000_0000;
+    if a < 0x3810_0000_0000_0000 {
+        return sign + any_bits(a);
     }
+    if a < 0x7ff0_0000_0000_0000 {
+        return sign + normal_bits(a);
+    }
+    sign + 0x7f80_0000
 }

@@ -1,4 +1,9 @@
--- Laws of the least number that meets a test and of counts. Assumes nothing.
+-- Laws of the least number that meets a test and of counts.
+--     least-..                       where the least is, and that none is before it
+--     count-yes, count-no, count-step   one number more
+--     count-ext, count-mono, count-le, count-lt, count-add, count-none   counts of two tests
+--     count-into                     a map that takes no two to one shows that these are no more
+-- Assumes nothing.
 use mathlib.Core.Path.{_≡_, refl, sym, _∙_, ap, subst}
 use mathlib.Core.Logic.{_⊎_, inl, inr, ⊎-elim}
 use mathlib.Core.Bool.{Bool, true, false, _&&_, not}

@@ -1,4 +1,8 @@
--- Laws of folds, of `first` and of written lists. Assumes nothing.
+-- Laws of folds, of `first` and `endOf`, and of written lists.
+--     fold-..                        one step, equal functions, from the other end, two folds joined, rows against columns
+--     first-.., end-..               the first and the last that pass a test; first-turn: read backwards, one is the other
+--     tab-.., is-tab, written-..     lists written from a function
+-- Assumes nothing.
 use mathlib.Core.Path.{_≡_, refl, sym, ap, _∙_}
 use mathlib.Core.Bool.{Bool, true, false, cond}
 use mathlib.Core.List.{List, [], _∷_}

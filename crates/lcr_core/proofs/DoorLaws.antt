@@ -2,6 +2,7 @@
 --     version-known, version-refused   what the answer of `Version::new` says
 --     range-..                         what the range test says
 --     refuse-yes, refuse-no            one step of a chain of checks
+--     shell-at, place-at, edge-at      what a call of the inner function gives the door
 -- Assumes nothing.
 use mathlib.Core.Path.{_≡_, refl, sym, ap, _∙_, subst}
 use mathlib.Core.Bool.{Bool, true, false, not, _&&_}
@@ -14,9 +15,13 @@ use lib.Signed.{ltZ, leZ, mag}
 use mir.Syntax.{w32}
 use mir.Val.{SFits, toZ, ofZ}
 use mir.ValLaws.{toZ-ofZ}
+use Rattle.laws.proofs.Bools.{and-left, and-right}
 use Rattle.lcr_core.specs.Version.{IsVersion, isVersion, versionAnswer, pickVersion, sideOf}
-use Rattle.lcr_core.specs.Border.{InRange, shellOf, placeOf}
+use Rattle.lcr_core.specs.Border.{InRange, shellOf, edgeOf, offsetOf, placeOf}
 use Rattle.lcr_core.proofs.Signed.{read}
+use Rattle.lcr_core.proofs.Cells.{edge-read, offset-read, offset-range}
+use Rattle.lcr_core.specs.declared.doors.EdgeAnswer.{EdgeAnswer}
+use Rattle.lcr_core.specs.declared.doors.EdgeAnswer.the-variants as edge
 use Rattle.lcr_core.specs.Doors.{inRange, orRefuse}
 use Rattle.lcr_core.specs.declared.version.Version.{Version}
 use Rattle.lcr_core.specs.declared.version.VersionAnswer.{VersionAnswer}
@@ -28,16 +33,9 @@ refuse-yes b refusal answer e = rw e
 pub refuse-no : {A : Type 0} (b : Bool) (refusal answer : A) → b ≡ false → refusal ≡ orRefuse b refusal answer
 refuse-no b refusal answer e = rw e
 
-left : (a b : Bool) → a && b ≡ true → a ≡ true
-left true b e = refl
-left false b e = e
-
-right : (a b : Bool) → a && b ≡ true → b ≡ true
-right true b e = e
-right false b e = absurd (subst T (sym e) tt)
-
 pub is-version : (v : ℕ) → isVersion v ≡ true → IsVersion v
-is-version v e = record { least = leb-true 1 v (left (leb 1 v) (leb v 64) e); greatest = leb-true v 64 (right (leb 1 v) (leb v 64) e) }
+is-version v e = record
+    { least = leb-true 1 v (and-left (leb 1 v) (leb v 64) e); greatest = leb-true v 64 (and-right (leb 1 v) (leb v 64) e) }
 
 clash : {A : Type 0} (v n : ℕ) (w : Version) → _≡_ {A = VersionAnswer} (Known w) (Refused n) → A
 clash v n w e = absurd (let z : _≡_ {A = ℕ} 0 1 = cc in never z)
@@ -105,3 +103,14 @@ pub place-at : (v w : ℕ) (x y : ℤ) → w ≡ v → InRange x → InRange y �
 place-at v w x y e hx hy =
     ap (λ (n : ℕ). placeOf n (toZ w32 (ofZ w32 x)) (toZ w32 (ofZ w32 y))) e ∙ ap (λ (z : ℤ). placeOf v z (toZ w32 (ofZ w32 y))) (read x hx)
     ∙ ap (λ (z : ℤ). placeOf v x z) (read y hy)
+
+pub edge-at : (v w e : ℕ) (o x y : ℤ) → w ≡ v → InRange x → InRange y
+    → e ≡ edgeOf (sideOf w) (toZ w32 (ofZ w32 x)) (toZ w32 (ofZ w32 y))
+    → o ≡ offsetOf (sideOf w) (toZ w32 (ofZ w32 x)) (toZ w32 (ofZ w32 y))
+    → _≡_ {A = EdgeAnswer} (edge.Along e (toZ w32 (ofZ w32 o))) (edge.Along (edgeOf (sideOf v) x y) (offsetOf (sideOf v) x y))
+edge-at v w e o x y ew hx hy ee eo =
+    let e1 : e ≡ edgeOf (sideOf v) x y = edge-read (sideOf w) e x y hx hy ee ∙ ap (λ (n : ℕ). edgeOf (sideOf n) x y) ew in
+    let o1 : o ≡ offsetOf (sideOf v) x y = offset-read (sideOf w) o x y hx hy eo ∙ ap (λ (n : ℕ). offsetOf (sideOf n) x y) ew in
+    let o2 : toZ w32 (ofZ w32 o) ≡ offsetOf (sideOf v) x y =
+    read o (subst InRange (sym o1) (offset-range (sideOf v) x y hx hy)) ∙ o1 in
+    cc

@@ -18,6 +18,7 @@ use lib.ListN.{length, getD, set}
 use lib.Seq.{getD-set-same, getD-set-other}
 use Rattle.lcr_core.specs.Ring.{ringBytes}
 use Rattle.lcr_core.specs.Version.{IsVersion, positionsOf}
+use Rattle.lcr_core.specs.Claims.{RowOf}
 use Rattle.lcr_core.specs.Mark.{rowLength, rowStart, rowsThrough, ringByte, bitAt, markAt, mark, RowMarks, AllMarks}
 
 pub table-length : length ringBytes ≡ 4864
@@ -82,6 +83,9 @@ row-end v h = leb→le (rowStart v + rowLength v) 4864 (left (ends v) (bits v) (
 pub row-bits : (v : ℕ) → IsVersion v → 8 * rowLength v ≡ positionsOf v
 unfolding rowsRight starts ends bits
 row-bits v h = eqb→eq (8 * rowLength v) (positionsOf v) (right (ends v) (bits v) (right (starts v) (ends v && bits v) (rows v h)))
+
+pub row-of : (v : ℕ) → IsVersion v → RowOf v
+row-of v h = record { within = let z = row-end v h in omega (arith, table-length); bits = row-bits v h }
 
 pub byte-within : (v p : ℕ) → IsVersion v → p < positionsOf v → rowStart v + p / 8 < 4864
 byte-within v p h k = let z = row-end v h in omega arith

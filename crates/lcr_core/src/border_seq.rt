@@ -1,4 +1,5 @@
-// The ring bytes of all versions, row after row: row v has 2v + 11 bytes. Made by mktable.py from border_seq.rs.
+// The ring bytes of all versions, row after row: row v has 2v + 11 bytes. Made by
+// oracle/make_table.py from border_seq.rs.
 pub const RING: [u8; 4864] = [
     82,
     238,

@@ -1,4 +1,8 @@
--- Closed runs: they hold every extreme point, and are unique up to where they start; their vertices turn clockwise. Assumes nothing.
+-- Closed runs: they hold every extreme point, and are unique up to where they start; their vertices turn clockwise.
+--     run-mem, high, complete        whose points they are, and that no extreme point is missing
+--     run-unique, closed-unique      one closed run from a start
+--     run-fan, fan-nodup, run-clockwise   its vertices turn clockwise, none twice
+-- Assumes nothing.
 use mathlib.Core.Path.{_≡_, refl, sym, _∙_, ap, subst}
 use mathlib.Core.Logic.{_⊎_, inl, inr, _≢_}
 use mathlib.Core.List.{

@@ -1,4 +1,8 @@
--- Edges of the hull: every point lies on the right side of a b or between a and b. Assumes nothing.
+-- Edges of the hull: every point lies on the right side of a b or between a and b.
+--     d2-dot, d2P, more, bound       distances by dot products
+--     side-of, side-unique, not-between, strict, not-inside   what lying on the right side of an edge says
+--     ext-of-edge, fan               the ends of an edge are extreme, and turns about an extreme point are transitive
+-- Assumes nothing.
 use mathlib.Core.Path.{_≡_, refl, sym, _∙_, ap, subst}
 use mathlib.Core.Logic.{_⊎_, inl, inr, _≢_}
 use mathlib.Core.List.{List, [], _∷_, List·Memᴰ·head, List·Memᴰ·tail}

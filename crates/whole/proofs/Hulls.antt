@@ -1,4 +1,7 @@
--- The Rust's gift wrapping, by indices, and what its list is. Assumes nothing.
+-- The gift wrapping of the Rust, by indices, and what its list is.
+--     start-.., ext-of-least         the start is least by x, then y, and extreme
+--     hull-run                       the list is a closed run along edges
+-- Assumes nothing.
 use mathlib.Core.Path.{_≡_, refl, sym, _∙_, ap, subst}
 use mathlib.Core.Logic.{_⊎_, inl, inr}
 use mathlib.Core.Bool.{Bool, true, false, _&&_, _||_}

@@ -1,4 +1,7 @@
--- The quad over indices, with the values and their comparisons as parameters: one rule for f32 and for whole numbers. Assumes nothing.
+-- The quad over indices, with the values and their comparisons as parameters: one rule for f32 and for whole numbers.
+--     keep-cong, iquad-cong          values that compare alike give the same indices
+--     far-is', c-is, d-is, quad-is   whole values give the quad of the points
+-- Assumes nothing.
 use mathlib.Core.Path.{_≡_, refl, sym, _∙_, ap}
 use mathlib.Core.Bool.{Bool, true, false, _&&_}
 use mathlib.Core.List.{List, [], _∷_, _++_, map, List·Memᴰ, List·Memᴰ·head, List·Memᴰ·tail}

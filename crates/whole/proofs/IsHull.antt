@@ -1,4 +1,5 @@
--- What the hull is: (a) of the plan. Assumes nothing.
+-- What the hull is: `hull-is`. Its vertices are points, no two equal, clockwise; every point lies on or inside it; and no vertex lies on or
+-- inside the hull of the others. Assumes nothing.
 use mathlib.Core.Path.{_≡_, refl, sym, ap, subst}
 use mathlib.Core.List.{List, [], _∷_, _++_, append-nil, List·Memᴰ·head, List·Memᴰ·tail, Memᴰ·cast, Memᴰ·append-right}
 use Prim.Native.Nat.{_<_}

@@ -1,4 +1,8 @@
--- Moves of the plane: quarter turns keep the turn of three points, the mirror negates it; both keep dot. Assumes nothing.
+-- Moves of the plane: quarter turns keep the turn of three points, the mirror negates it; both keep distances.
+--     Keeps, Flips, keeps-.., flips-..   such moves, one after the other
+--     mem-map, of-map, inj, mem-rev, len-mem, empty   points of a moved list
+--     hull-of-closed, hull-turned, hull-mirrored      the hull of the moved points
+-- Assumes nothing.
 use mathlib.Core.Path.{_≡_, refl, sym, _∙_, ap, subst}
 use mathlib.Core.Logic.{_⊎_, inl, inr}
 use mathlib.Core.Bool.{Bool, true, false}
@@ -18,7 +22,7 @@ use Rattle.whole.proofs.Run.{Run}
 use Rattle.whole.proofs.Closed.{closed-unique, run-fan, fan-nodup}
 use Rattle.whole.specs.Hull.{hull, startOf, walk}
 use Rattle.whole.proofs.Hulls.{hull-run, start-mem, start-ext}
-use Rattle.whole.specs.Moves.{quarter, mirror, turns, move, Same, movedList}
+use Rattle.whole.specs.Moves.{quarter, mirror, Same}
 
 pub record Keeps (m : Pt → Pt) : Type 0 where
   pub turn : (a b c : Pt) → cross (m a) (m b) (m c) ≡ cross a b c
@@ -63,13 +67,6 @@ keeps-keeps {m} {n} k l =
 pub keeps-flips : {m n : Pt → Pt} → Keeps m → Flips n → Flips (λ p. m (n p))
 keeps-flips {m} {n} k l =
     record { turn = λ a b c. k .turn (n a) (n b) (n c) ∙ l .turn a b c; far = λ a b c. k .far (n a) (n b) (n c) ∙ l .far a b c }
-
-pub keeps-turns : (t : ℕ) (w h : ℤ) → Keeps (turns t w h)
-keeps-turns zero w h = keeps-id
-keeps-turns (suc t) w h = keeps-keeps (keeps-turns t h w) (keeps-quarter h)
-
-pub flips-turns : (t : ℕ) (w h : ℤ) → Flips (λ p. turns t w h (mirror w p))
-flips-turns t w h = keeps-flips (keeps-turns t w h) (flips-mirror w)
 
 pub mem-map : (m : Pt → Pt) {a : Pt} {l : List Pt} → Mem a l → Mem (m a) (map m l)
 mem-map m (List·Memᴰ·head e) = List·Memᴰ·head (ap m e)
@@ -207,7 +204,3 @@ hull-mirrored m K (p ∷ P) Q same =
     (rw (reverse-cons (m s) (map m (h .0)))
     (shift Q (m s) (reverse (map m (h .0))) (same (m s) .0 (mem-map m (start-mem (p ∷ P) some)))
     (run-flips m K (p ∷ P) Q same s (h .0) s (h .2)) (λ t. not-map m (inj m (K .far)) s (h .0) (h .3) (mem-rev (map m (h .0)) t))))
-
-pub hull-moved : (b : Bool) (t : ℕ) (w h : ℤ) (P Q : List Pt) → Same (map (move b t w h) P) Q → Rot (movedList b t w h (hull P)) (hull Q)
-hull-moved false t w h P Q same = hull-turned (turns t w h) (keeps-turns t w h) P Q same
-hull-moved true t w h P Q same = hull-mirrored (λ p. turns t w h (mirror w p)) (flips-turns t w h) P Q same

@@ -1,4 +1,8 @@
--- Runs along edges: the walk's list is one; closed runs are unique up to where they start. Assumes nothing.
+-- Runs along edges: the walk's list is one.
+--     pigeon                         more places than points: one comes twice
+--     same-true, same-false, same-refl   the test for equal points
+--     back-start                     the walk comes back to its start
+-- Assumes nothing.
 use mathlib.Core.Path.{_≡_, refl, sym, _∙_, ap, subst}
 use mathlib.Core.Logic.{_⊎_, inl, inr, _≢_}
 use mathlib.Core.List.{List, [], _∷_, List·Memᴰ·head, List·Memᴰ·tail}

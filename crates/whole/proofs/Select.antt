@@ -1,4 +1,4 @@
--- The selection: a fold over candidates of any kind S with points `pt`. Assumes nothing.
+-- The selection of the next vertex, `select-ok`: a fold over candidates of any kind S with points `pt`. Assumes nothing.
 use mathlib.Core.Path.{_≡_, refl, sym, _∙_, ap, subst}
 use mathlib.Core.Logic.{_⊎_, inl, inr}
 use mathlib.Core.Bool.{Bool, true, false, _&&_, _||_}

@@ -1,4 +1,5 @@
--- The laws of ℤ that lib.IntN lacks: the product is associative and distributes over the sum. Assumes nothing.
+-- The laws of ℤ that lib.IntN lacks, over the shut operations: ⊕-.., ⊗-.., neg-.., the product associates and distributes over the sum;
+-- `cancel`, `sub-nat`. Assumes nothing.
 use mathlib.Core.Path.{refl, _≡_, sym, _∙_, ap, subst}
 use Prim.Native.Nat.{ℕ, _+_, _-_, _≤_}
 use native.Mathlib.Omega.{arith}

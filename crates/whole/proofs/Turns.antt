@@ -1,4 +1,9 @@
--- Points, the turn of three points, and the laws of turns that the hull needs. Assumes nothing.
+-- Points, the turn of three points, and the laws of turns that the hull needs.
+--     pt≡                            points by their coordinates
+--     cyc, swap, rot2, cross-..      the turn with its points in another order, or equal
+--     plu, tri                       the identities of four and five points
+--     d2.., lin-self, ge-..          distances, and the order of points seen from one
+-- Assumes nothing.
 use mathlib.Core.Path.{_≡_, refl, sym, _∙_, ap, subst}
 use mathlib.Core.Logic.{_⊎_, inl, inr}
 use mathlib.Core.List.{List, [], _∷_}

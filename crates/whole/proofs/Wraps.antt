@@ -1,4 +1,7 @@
--- Gift wrapping over indices, with the three tests as parameters: one rule for f32 and for whole numbers. Assumes nothing.
+-- Gift wrapping over indices, with the three tests as parameters: one rule for f32 and for whole numbers.
+--     wrap-is                        whole tests give the hull of the points
+--     wrap-cong                      tests that agree give the same indices
+-- Assumes nothing.
 use mathlib.Core.Path.{_≡_, refl, _∙_, ap}
 use mathlib.Core.Bool.{Bool, true, false}
 use mathlib.Core.List.{List, [], _∷_, map, List·Memᴰ, List·Memᴰ·head, List·Memᴰ·tail}

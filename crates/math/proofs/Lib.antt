@@ -1,0 +1,9 @@
+pub mod Eliminations
+pub mod Doors
+pub mod Samples
+pub mod Order
+pub mod Counts
+pub mod Selection
+pub mod Statistics
+pub mod Usable
+pub mod Numbers

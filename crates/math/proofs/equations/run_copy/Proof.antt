@@ -1,0 +1,26 @@
+use borrow.Author.Needs.{needs}
+use Rattle.math.proofs.equations.run_copy.Statement.{statement}
+use Rattle.math.proofs.equations.run_copy.Tie as tie
+
+copy-requires : tie.Need-copy-requires
+copy-requires c κs = search needs
+
+copy-requires-2 : tie.Need-copy-requires-2
+copy-requires-2 c κs = search needs
+
+run-requires : tie.Need-run-requires
+run-requires c κs = search needs
+
+same-length : tie.Need-same-length
+same-length c = search needs
+
+same-length-2 : tie.Need-same-length-2
+same-length-2 c = search needs
+
+returns : tie.Need-returns
+returns c = cc
+
+pub run-copy-spec : {M : Type 1} → statement M
+run-copy-spec =
+    tie.close
+    (tie.spec copy-requires copy-requires-2 run-requires same-length same-length-2 returns)

@@ -1,0 +1,124 @@
+-- The transform from module space to pixels, as document 01 has it under "Transform": eight f64 coefficients and three f64 lens numbers,
+-- any
+-- f32 corners. Definitions only. Assumes nothing.
+use mathlib.Core.List.{List, [], _∷_}
+use mathlib.Core.Bool.{cond}
+use lib.Ieee.{Float, binary64, add, sub, mul, div, neg, lt, eq, ofBits}
+use Rattle.ieee.specs.Narrow.{narrow}
+use Rattle.ieee.specs.Ops.{abs}
+use Rattle.ieee.specs.Constants.{1e-9}
+use Rattle.math.specs.Lists.{at}
+use Rattle.math.specs.Equations.{solution}
+use Rattle.math.specs.declared.Found.{Found}
+use Rattle.math.specs.declared.Found.the-variants.{Refused, Nothing, Solved}
+use Rattle.transform.specs.declared.Transform.{Transform}
+use Rattle.transform.specs.declared.Pixel.{Pixel}
+use Rattle.transform.specs.declared.Offset.{Offset}
+use Rattle.transform.specs.declared.Mapped.{Mapped}
+use Rattle.transform.specs.declared.Mapped.the-variants.{None, Some}
+
+-- +0
+abbrev pub zero : Float
+zero = ofBits binary64 0
+
+-- 1
+abbrev pub one : Float
+one = ofBits binary64 0x3ff0_0000_0000_0000
+
+-- ---- four corners to four others
+-- the two equations of a corner: (u, v) goes to (x, y)
+abbrev pub corner : Float → Float → Float → Float → List Float → List Float
+corner u v x y rest =
+    u ∷ v ∷ one ∷ zero ∷ zero ∷ zero ∷ mul binary64 (neg x) u ∷ mul binary64 (neg x) v
+    ∷ zero ∷ zero ∷ zero ∷ u ∷ v ∷ one ∷ mul binary64 (neg y) u ∷ mul binary64 (neg y) v ∷ rest
+
+-- the equations of four corners, whose x and y alternate
+unfoldable pub matrix : List Float → List Float → List Float
+matrix s d =
+    corner (at s 0) (at s 1) (at d 0) (at d 1)
+    (corner (at s 2) (at s 3) (at d 2) (at d 3)
+    (corner (at s 4) (at s 5) (at d 4) (at d 5)
+    (corner (at s 6) (at s 7) (at d 6) (at d 7) [])))
+
+-- the eight numbers of four corners
+abbrev pub numbers : List Float → List Float
+numbers d = at d 0 ∷ at d 1 ∷ at d 2 ∷ at d 3 ∷ at d 4 ∷ at d 5 ∷ at d 6 ∷ at d 7 ∷ []
+
+-- eight coefficients, and no lens
+abbrev pub homography : List Float → Transform
+homography x = record {
+  m0 = at x 0;
+  m1 = at x 1;
+  m2 = at x 2;
+  m3 = at x 3;
+  m4 = at x 4;
+  m5 = at x 5;
+  m6 = at x 6;
+  m7 = at x 7;
+  cx = zero;
+  cy = zero;
+  kappa = zero;
+}
+
+-- the transform of a solution, or none
+abbrev pub fromSolution : Found → List Float → Mapped
+fromSolution (Refused k) x = None
+fromSolution Nothing x = None
+fromSolution Solved x = Some (homography x)
+
+-- the transform that takes the corners s to the corners d, or none
+unfoldable pub fromQuad : List Float → List Float → Mapped
+unfolding matrix solution
+fromQuad s d = let r = solution 8 (matrix s d) (numbers d) in fromSolution (r .found) (r .x)
+
+-- ---- the lens
+-- the same coefficients with a lens
+abbrev pub withRadial : Transform → Float → Float → Float → Transform
+withRadial t cx cy kappa = record {
+  m0 = t .m0;
+  m1 = t .m1;
+  m2 = t .m2;
+  m3 = t .m3;
+  m4 = t .m4;
+  m5 = t .m5;
+  m6 = t .m6;
+  m7 = t .m7;
+  cx = cx;
+  cy = cy;
+  kappa = kappa;
+}
+
+-- one round towards the sensor's offset whose straightened offset is (ux, uy)
+unfoldable pub bent : Float → Float → Float → Offset → Offset
+unfolding div mul add
+bent k ux uy d =
+    let s = add binary64 one (mul binary64 k (add binary64 (mul binary64 (d .x) (d .x)) (mul binary64 (d .y) (d .y)))) in
+    record { x = div binary64 ux s; y = div binary64 uy s }
+
+-- through the lens: four rounds from the straightened offset, then rounded to f32
+unfoldable pub throughLens : Float → Float → Float → Float → Float → Pixel
+unfolding bent narrow
+throughLens cx cy k x y =
+    let ux = sub binary64 x cx in
+    let uy = sub binary64 y cy in
+    let d = bent k ux uy (bent k ux uy (bent k ux uy (bent k ux uy record { x = ux; y = uy }))) in
+    record { x = narrow (add binary64 cx (d .x)); y = narrow (add binary64 cy (d .y)) }
+
+-- ---- a place's pixel
+-- a divisor kept away from 0: a magnitude below 1e-9 becomes 1e-9, whatever the sign; a NaN stays
+unfoldable pub guarded : Float → Float
+unfolding abs lt
+guarded w = cond (lt (abs w) 1e-9) 1e-9 w
+
+-- a * u + b * v + c
+abbrev pub plane : Float → Float → Float → Float → Float → Float
+plane a b c u v = add binary64 (add binary64 (mul binary64 a u) (mul binary64 b v)) c
+
+-- (m0 u + m1 v + m2, m3 u + m4 v + m5) / (m6 u + m7 v + 1), then through the lens, if there is one
+unfoldable pub applied : Transform → Float → Float → Pixel
+unfolding guarded throughLens narrow eq
+applied t u v =
+    let w = guarded (plane (t .m6) (t .m7) one u v) in
+    let x = div binary64 (plane (t .m0) (t .m1) (t .m2) u v) w in
+    let y = div binary64 (plane (t .m3) (t .m4) (t .m5) u v) w in
+    cond (eq (t .kappa) zero) record { x = narrow x; y = narrow y } (throughLens (t .cx) (t .cy) (t .kappa) x y)
