@@ -7,10 +7,11 @@ mod calc;
 mod calls;
 mod fuzz;
 mod list;
+mod marks;
 mod pic;
 use std::io::{Read, Write};
 
-const AREAS: &[&calls::Area] = &[&border::AREA];
+const AREAS: &[&calls::Area] = &[&border::AREA, &marks::AREA];
 
 /// The areas of a name, or all of them.
 fn areas(name: &str) -> Vec<&'static calls::Area> {
@@ -34,6 +35,7 @@ fn main() {
         Some("attempt-verbose") => say(att::verbose(&att::decode(&stdin()))),
         Some("calc") => calc::run(),
         Some("fuzz") => fuzz::run(num(2, 1), num(3, 10000)),
+        Some("bench") if a.get(2).is_some_and(|s| s == "marks") => marks::bench(),
         Some("bench") => bench::run(),
         Some("vectors") => areas(&a[2]).into_iter().for_each(calls::vectors),
         // compare AREA|all SEED SECONDS [MOST]: the seconds are shared by the areas

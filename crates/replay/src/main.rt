@@ -55,4 +55,5 @@ fn area(name: &[u8]) {
 
 fn main() {
     area(b"border");
+    area(b"marks");
 }
