@@ -71,8 +71,8 @@ pose-within v r false p = mod-lt (r * quarterOf v + p) (omega arith)
 
 pub corner-lt : (g : MarkMove) (r : ℕ) → r < 4 → cornerTo g r < 4
 unfolding cornerTo
-corner-lt (shift k) r few = mod-lt (r + k) (omega arith)
-corner-lt reversal r few = mod-lt (4 - r) (omega arith)
+corner-lt (shift k) r few = mod-lt _ (omega arith)
+corner-lt reversal r few = mod-lt _ (omega arith)
 corner-lt (followed g h) r few = corner-lt h (cornerTo g r) (corner-lt g r few)
 
 pub pose-maps : (v : ℕ) (g : MarkMove) (r : ℕ) (reversed : Bool) → r < 4 → (p : ℕ) → p < positionsOf v
