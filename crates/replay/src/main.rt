@@ -55,5 +55,8 @@ fn area(name: &[u8]) {
 
 fn main() {
     area(b"border");
+    area(b"ieee");
+    area(b"math");
+    area(b"transform");
     area(b"marks");
 }

@@ -1,0 +1,55 @@
+use lib.ListN.{length}
+use Prim.Native.Nat.{_-_, _≤_}
+use mathlib.Core.Path.{_≡_}
+use borrow.Author.Needs.{needs}
+use Rattle.exports.proofs.numbers.hand.Statement.{statement}
+use Rattle.exports.proofs.numbers.hand.Tie as tie
+
+abbrev Inv-loop : tie.InvT-loop
+Inv-loop out₀ x i₀ out i = (length out ≡ length out₀) × (i ≤ 8)
+
+abbrev μ-loop : tie.MeasureT-loop
+μ-loop out₀ x i₀ out i = 8 - i
+
+loop-holds : tie.Need-loop-holds Inv-loop μ-loop
+loop-holds c = search needs
+
+mul-put : tie.Need-mul-put Inv-loop μ-loop
+mul-put c = search needs
+
+array-read-put : tie.Need-array-read-put Inv-loop μ-loop
+array-read-put c = search needs
+
+put-requires : tie.Need-put-requires Inv-loop μ-loop
+put-requires c κs = search needs
+
+add-i : tie.Need-add-i Inv-loop μ-loop
+add-i c = search needs
+
+loop-less : tie.Need-loop-less Inv-loop μ-loop
+loop-less c = search needs
+
+loop-again : tie.Need-loop-again Inv-loop μ-loop
+loop-again c = search needs
+
+same-length : tie.Need-same-length Inv-loop μ-loop
+same-length c = search needs
+
+returns : tie.Need-returns Inv-loop μ-loop
+returns c = search needs
+
+pub hand-spec : {M : Type 1} → statement M
+hand-spec =
+    tie.close
+    (tie.spec
+    Inv-loop
+    μ-loop
+    loop-holds
+    mul-put
+    array-read-put
+    put-requires
+    add-i
+    loop-less
+    loop-again
+    same-length
+    returns)
