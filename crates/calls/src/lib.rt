@@ -8,6 +8,7 @@
 pub mod border;
 pub mod floats;
 pub mod ieee_calls;
+pub mod marks_calls;
 pub mod math_calls;
 pub mod transform_calls;
 pub mod words;
@@ -24,6 +25,9 @@ pub fn call(kind: u32, args: &[u32], out: &mut [u32]) -> usize {
     }
     if kind < 500 {
         return transform_calls::answer(kind, args, out);
+    }
+    if 700 <= kind {
+        return marks_calls::answer(kind, args, out);
     }
     0
 }
