@@ -15,7 +15,7 @@ use Rattle.whole.specs.Numbers.{_⊕_, neg}
 use Rattle.whole.specs.Points.{Rot}
 use Rattle.whole.specs.Hull.{range, samePt}
 use Rattle.whole.specs.Moves.{mirror}
-use Rattle.whole.proofs.Final.{rot-same}
+use Rattle.whole.proofs.Reordered.{rot-same}
 use Rattle.whole.specs.Wrap.{sel, lst, nxt, wlk, wrap, keep, fars, ends, iquad}
 use Rattle.boundary.specs.Runs.{some, every, runAt, inRun, runStart, runEnd, edges}
 use Rattle.boundary.specs.Boundary.{joined, rowPoints, columnPoints, rowsFrom, columnsFrom, boundary}
