@@ -3,6 +3,7 @@ pub mod Bests
 pub mod MarkLists
 pub mod MarkMoves
 pub mod Poses
+pub mod PosesMoved
 pub mod Rises
 pub mod Splits
 pub mod Walks

@@ -1,0 +1,8 @@
+// Theorems, as functions with an empty body: each `ensures` is the statement.
+ghost use Rattle.turned.specs.Claims.{Demand3};
+
+// Demand 3: a picture turned or mirrored has the moved thresholds, ink, groups, regions, boundary
+// points, hulls and quads; ring marks shifted or reversed have the same counts at the moved poses.
+pub fn demand_3()
+    ensures { λ _. ⌜ Demand3 ⌝ }
+{}
