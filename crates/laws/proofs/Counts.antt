@@ -65,7 +65,8 @@ module _ (p : ℕ → Bool) where
   pub count-most : (k : ℕ) → count p k ≤ k
   unfolding count
   count-most zero = omega arith
-  count-most (suc k) = ⊎-elim (λ e. omega (arith, count-most k, count-yes k e)) (λ e. omega (arith, count-most k, count-no k e)) (which (p k))
+  count-most (suc k) =
+      ⊎-elim (λ e. omega (arith, count-most k, count-yes k e)) (λ e. omega (arith, count-most k, count-no k e)) (which (p k))
 
   pub count-mono : (i k : ℕ) → i ≤ k → count p i ≤ count p k
   count-mono i zero h = subst (λ (x : ℕ). count p x ≤ count p zero) {x = zero} (omega arith) (omega arith)
@@ -93,7 +94,8 @@ module _ (p q : ℕ → Bool) where
   unfolding count
   count-ext zero h = refl
   count-ext (suc k) h =
-      let e : count q (suc k) + 0 ≡ count p (suc k) + 0 = both-next k (h k (omega arith)) 0 0 (omega (arith, count-ext k (λ c b. h c (omega arith)))) in
+      let e : count q (suc k) + 0 ≡ count p (suc k) + 0 =
+      both-next k (h k (omega arith)) 0 0 (omega (arith, count-ext k (λ c b. h c (omega arith)))) in
       omega arith
 
   -- `q` holds of one number more than `p`
@@ -132,7 +134,8 @@ module _ (p q : ℕ → Bool) where
       earlier ih =
           ⊎-elim
           (λ t. omega (arith, count-yes p k t, count-yes q k (h k (omega arith) t)))
-          (λ t. ⊎-elim (λ u. omega (arith, count-no p k t, count-yes q k u)) (λ u. omega (arith, count-no p k t, count-no q k u)) (which (q k)))
+          (λ t. ⊎-elim (λ u. omega (arith, count-no p k t, count-yes q k u)) (λ u. omega (arith, count-no p k t, count-no q k u))
+          (which (q k)))
           (which (p k))
 
 pub count-none : (p : ℕ → Bool) (k : ℕ) → ((c : ℕ) → c < k → p c ≡ false) → count p k ≡ 0
@@ -146,7 +149,8 @@ but q b c = q c && not (eqb c b)
 
 but-out : (q : ℕ → Bool) (b : ℕ) → but q b b ≡ false
 unfolding but
-but-out q b = ⊎-elim (λ t. absurd (clash (and-right (q b) (not (eqb b b)) t) (ap not (eq-eqb b b refl)))) (λ t. t) (which (q b && not (eqb b b)))
+but-out q b = ⊎-elim (λ t. absurd (clash (and-right (q b) (not (eqb b b)) t) (ap not (eq-eqb b b refl)))) (λ t. t)
+    (which (q b && not (eqb b b)))
 
 but-in : (q : ℕ → Bool) (b c : ℕ) → (c ≡ b → ⊥) → but q b c ≡ q c
 unfolding but
@@ -165,10 +169,16 @@ unfolding count
 count-into p zero q m f to one = omega arith
 count-into p (suc k) q m f to one = go (count-into p k) (which (p k))
   where
-    go : ((q′ : ℕ → Bool) (m′ : ℕ) (f′ : ℕ → ℕ) → ((a : ℕ) → a < k → p a ≡ true → (f′ a < m′) × (q′ (f′ a) ≡ true)) → ((a b : ℕ) → a < k → b < k → p a ≡ true → p b ≡ true → f′ a ≡ f′ b → a ≡ b) → count p k ≤ count q′ m′)
+    go : ((q′ : ℕ → Bool) (m′ : ℕ) (f′ : ℕ → ℕ) → ((a : ℕ) → a < k → p a ≡ true → (f′ a < m′) × (q′ (f′ a) ≡ true))
+        → ((a b : ℕ) → a < k → b < k → p a ≡ true → p b ≡ true → f′ a ≡ f′ b → a ≡ b) → count p k ≤ count q′ m′)
         → (p k ≡ true) ⊎ (p k ≡ false) → count p (suc k) ≤ count q m
     go ih (inr e) = omega (arith, count-no p k e, ih q m f (λ a b t. to a (omega arith) t) (λ a b x y. one a b (omega arith) (omega arith)))
     go ih (inl e) =
         let z = to k (omega arith) e in
-        let i = ih (but q (f k)) m f (λ a b t. (to a (omega arith) t .0, but-in q (f k) (f a) (λ y. omega (arith, one a k (omega arith) (omega arith) t e y)) ∙ to a (omega arith) t .1)) (λ a b x y. one a b (omega arith) (omega arith)) in
+        let i = ih (but q (f k)) m f
+        (λ a b t. (
+          to a (omega arith) t .0,
+          but-in q (f k) (f a) (λ y. omega (arith, one a k (omega arith) (omega arith) t e y))
+              ∙ to a (omega arith) t .1,
+        )) (λ a b x y. one a b (omega arith) (omega arith)) in
         omega (arith, count-yes p k e, count-add (but q (f k)) q (f k) m (z .0) (but-out q (f k)) (z .1) (λ c d n. but-in q (f k) c n))

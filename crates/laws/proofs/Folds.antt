@@ -44,12 +44,14 @@ module _ (op : ℕ → ℕ → ℕ) (e : ℕ) where
     fold-reverse (suc n) f =
         fold-front n (λ i. f (suc n - 1 - i))
         ∙ ap (λ (k : ℕ). op k (fold op e n (λ i. f (suc n - 1 - suc i)))) (ap f (omega arith))
-        ∙ ap (λ (k : ℕ). op (f n) k) (fold-ext n (λ i. f (suc n - 1 - suc i)) (λ i. f (n - 1 - i)) (λ i l. ap f (omega arith)) ∙ fold-reverse n f)
+        ∙ ap (λ (k : ℕ). op (f n) k)
+        (fold-ext n (λ i. f (suc n - 1 - suc i)) (λ i. f (n - 1 - i)) (λ i l. ap f (omega arith)) ∙ fold-reverse n f)
         ∙ comm (f n) (fold op e n f)
 
     -- two folds joined place by place
     middle : (a b c d : ℕ) → op (op a b) (op c d) ≡ op (op a c) (op b d)
-    middle a b c d = assoc a b (op c d) ∙ ap (op a) (sym (assoc b c d) ∙ ap (λ (k : ℕ). op k d) (comm b c) ∙ assoc c b d) ∙ sym (assoc a c (op b d))
+    middle a b c d = assoc a b (op c d) ∙ ap (op a) (sym (assoc b c d) ∙ ap (λ (k : ℕ). op k d) (comm b c) ∙ assoc c b d)
+        ∙ sym (assoc a c (op b d))
 
     module _ (idem : op e e ≡ e) where
       pub fold-unit : (n : ℕ) → fold op e n (λ i. e) ≡ e
@@ -79,7 +81,8 @@ pub first-at : (n : ℕ) (t : ℕ → Bool) (b : ℕ) → b < n → ((k : ℕ) �
 first-at zero t b l none here = absurd (not-suc-le-zero l)
 first-at (suc n) t zero l none here = rw (first-suc, here)
 first-at (suc n) t (suc b) l none here =
-    rw (first-suc, none zero (omega arith)) (ap suc (first-at n (λ k. t (suc k)) b (le-of-suc-le-suc l) (λ k m. none (suc k) (omega arith)) here))
+    rw (first-suc, none zero (omega arith))
+    (ap suc (first-at n (λ k. t (suc k)) b (le-of-suc-le-suc l) (λ k m. none (suc k) (omega arith)) here))
 
 pub first-none : (n : ℕ) (t : ℕ → Bool) → ((k : ℕ) → k < n → t k ≡ false) → first n t ≡ n
 unfolding first
@@ -91,7 +94,12 @@ pub first-ext : (n : ℕ) (t u : ℕ → Bool) → ((k : ℕ) → k < n → t k 
 unfolding first
 first-ext zero t u same = refl
 first-ext (suc n) t u same =
-    rw (first-suc n t, first-suc n u, same zero (omega arith), first-ext n (λ k. t (suc k)) (λ k. u (suc k)) (λ k m. same (suc k) (omega arith)))
+    rw (
+      first-suc n t,
+      first-suc n u,
+      same zero (omega arith),
+      first-ext n (λ k. t (suc k)) (λ k. u (suc k)) (λ k m. same (suc k) (omega arith)),
+    )
 
 pub first-le : (n : ℕ) (t : ℕ → Bool) → first n t ≤ n
 unfolding first
@@ -134,7 +142,8 @@ written-none f old = refl
 
 pub written-more : (n : ℕ) (f : ℕ → ℕ) (old : List ℕ) → n < length old → set (written n f old) n (f n) ≡ written (n + 1) f old
 unfolding tab
-written-more n f old l = rw (add-one, drop-cons old n 0, set-at (tab n f) (getD old n 0) (drop (suc n) old) (f n) n (length-tab n f), append-snoc)
+written-more n f old l =
+    rw (add-one, drop-cons old n 0, set-at (tab n f) (getD old n 0) (drop (suc n) old) (f n) n (length-tab n f), append-snoc)
 
 pub getD-written : (n : ℕ) (f : ℕ → ℕ) (old : List ℕ) (i d : ℕ) → i < n → getD (written n f old) i d ≡ f i
 getD-written n f old i d l = List·getD-append (tab n f) (drop n old) d i (rw (length-tab n f) l) ∙ getD-tab n f i d l
@@ -143,7 +152,8 @@ pub drop-written : (n : ℕ) (f : ℕ → ℕ) (old : List ℕ) → drop n (writ
 drop-written n f old = drop-at (tab n f) (drop n old) n (length-tab n f)
 
 -- one store of a loop that writes a list from the front
-pub written-step : (n : ℕ) (f : ℕ → ℕ) (old : List ℕ) {l : List ℕ} {v : ℕ} → l ≡ written n f old → v ≡ f n → n < length old → set l n v ≡ written (n + 1) f old
+pub written-step : (n : ℕ) (f : ℕ → ℕ) (old : List ℕ) {l : List ℕ} {v : ℕ} → l ≡ written n f old → v ≡ f n → n < length old
+    → set l n v ≡ written (n + 1) f old
 written-step n f old e q l = rw (e, q) (written-more n f old l)
 
 -- ---- the last that passes
@@ -178,7 +188,8 @@ unfolding endOf
 end-holds zero t l = absurd (not-suc-le-zero l)
 end-holds (suc n) t l = go (t n) refl l (end-holds n t)
   where
-    go : (b : Bool) → t n ≡ b → 0 < cond b (suc n) (endOf n t) → (0 < endOf n t → t (endOf n t - 1) ≡ true) → t (cond b (suc n) (endOf n t) - 1) ≡ true
+    go : (b : Bool) → t n ≡ b → 0 < cond b (suc n) (endOf n t) → (0 < endOf n t → t (endOf n t - 1) ≡ true)
+        → t (cond b (suc n) (endOf n t) - 1) ≡ true
     go true q z ih = let e : suc n - 1 ≡ n = omega arith in ap t e ∙ q
     go false q z ih = ih z
 
@@ -187,7 +198,9 @@ unfolding first
 first-holds zero t l = absurd (not-suc-le-zero l)
 first-holds (suc n) t l = go (t zero) refl l (first-holds n (λ k. t (suc k)))
   where
-    go : (b : Bool) → t zero ≡ b → cond b zero (suc (first n (λ k. t (suc k)))) < suc n → (first n (λ k. t (suc k)) < n → t (suc (first n (λ k. t (suc k)))) ≡ true) → t (cond b zero (suc (first n (λ k. t (suc k))))) ≡ true
+    go : (b : Bool) → t zero ≡ b → cond b zero (suc (first n (λ k. t (suc k)))) < suc n
+        → (first n (λ k. t (suc k)) < n → t (suc (first n (λ k. t (suc k)))) ≡ true)
+        → t (cond b zero (suc (first n (λ k. t (suc k))))) ≡ true
     go true q z ih = q
     go false q z ih = ih (le-of-suc-le-suc z)
 

@@ -1,8 +1,7 @@
 -- Laws of places, edges and cells.
 --     outer-x-.., outer-y-.., inward-..   the pieces of each rule
 --     level-.., edge-..                   which edge, and the coordinate along it
---     outer-within                        an outer cell's places are at most q
---     position-outer                      the position of the outer cell of p is p
+--     shell-.., place-.., ..-given        what the code's calls give
 -- Assumes nothing.
 use mathlib.Core.Path.{_≡_, refl, sym, ap, _∙_, subst}
 use mathlib.Core.Bool.{Bool, true, false, not, _&&_, cond}
@@ -16,7 +15,25 @@ use lib.Signed.{nonNeg}
 use mir.Syntax.{w32}
 use mir.Val.{toZ, ofZ}
 use Rattle.lcr_core.specs.Version.{sideOf, quarterOf, positionsOf}
-use Rattle.lcr_core.specs.Border.{InRange, depthOf, shellOf, coordinate, alongOf, isLevel, edgeOf, offsetOf, onEdge, placeOf, pickPlace, outerX, outerY, inward, outerCell, innerCell, cellAt}
+use Rattle.lcr_core.specs.Border.{
+  InRange,
+  depthOf,
+  shellOf,
+  coordinate,
+  alongOf,
+  isLevel,
+  edgeOf,
+  offsetOf,
+  onEdge,
+  placeOf,
+  pickPlace,
+  outerX,
+  outerY,
+  inward,
+  outerCell,
+  innerCell,
+  cellAt,
+}
 use Rattle.lcr_core.specs.declared.border.Place.{Place}
 use Rattle.lcr_core.specs.declared.border.Place.the-variants.{At, Outside}
 use Rattle.lcr_core.specs.declared.border.Cell.{Cell}
@@ -101,7 +118,8 @@ edge-right s x y e n = (rw (e, n), rw e)
 
 pub level-is : (s : ℕ) (x y : ℤ) (dx dy : ℕ) (r b : Bool) → dx ≡ depthOf s x → dy ≡ depthOf s y
     → r ≡ (ltb 0 dy && leb dx dy) → r ≡ b → isLevel s x y ≡ b
-level-is s x y dx dy r b ex ey er e = sym (ap (λ (n : ℕ). ltb 0 n && leb (depthOf s x) n) ey) ∙ sym (ap (λ (n : ℕ). ltb 0 dy && leb n dy) ex) ∙ sym er ∙ e
+level-is s x y dx dy r b ex ey er e =
+    sym (ap (λ (n : ℕ). ltb 0 n && leb (depthOf s x) n) ey) ∙ sym (ap (λ (n : ℕ). ltb 0 dy && leb n dy) ex) ∙ sym er ∙ e
 
 pub sign-is : (z : ℤ) (r b : Bool) → r ≡ not (nonNeg z) → r ≡ b → nonNeg z ≡ not b
 sign-is z r b er e = sym (twice (nonNeg z)) ∙ ap not (sym er ∙ e)
@@ -155,7 +173,9 @@ pub along-asks : (s : ℕ) (x y o : ℤ) (side : ℕ) → side ≡ s → o ≡ o
     → InRange (toZ w32 (ofZ w32 o)) × (depthOf side (toZ w32 (ofZ w32 o)) ≤ 3)
 along-asks s x y o side es eo hx hy h =
     let r : InRange o = subst InRange (sym eo) (offset-range s x y hx hy) in
-    let d : depthOf side o ≤ 3 = subst (λ (z : ℤ). depthOf side z ≤ 3) (sym eo) (subst (λ (n : ℕ). depthOf n (offsetOf s x y) ≤ 3) (sym es) (offset-depth s x y h)) in
+    let d : depthOf side o ≤ 3 =
+    subst (λ (z : ℤ). depthOf side z ≤ 3) (sym eo)
+    (subst (λ (n : ℕ). depthOf n (offsetOf s x y) ≤ 3) (sym es) (offset-depth s x y h)) in
     subst (λ (z : ℤ). InRange z × (depthOf side z ≤ 3)) (sym (read o r)) (r, d)
 
 pub position-is : (v : ℕ) (x y o : ℤ) (r n q e u a : ℕ) → InRange x → InRange y → 2 ≤ shellOf (sideOf v) x y → shellOf (sideOf v) x y ≤ 3
@@ -166,10 +186,13 @@ position-is v x y o r n q e u a hx hy h k en eq ee eo ea eu er =
     let s = sideOf v in
     let ro : InRange o = subst InRange (sym eo) (offset-range s x y hx hy) in
     let ea2 : a ≡ alongOf (offsetOf s x y) = ea ∙ ap alongOf (read o ro ∙ eo) in
-    let eu2 : u ≡ min (alongOf (offsetOf s x y)) (quarterOf v) = eu ∙ ap (λ (m : ℕ). min m q) ea2 ∙ ap (λ (m : ℕ). min (alongOf (offsetOf s x y)) m) eq in
+    let eu2 : u ≡ min (alongOf (offsetOf s x y)) (quarterOf v) =
+    eu ∙ ap (λ (m : ℕ). min m q) ea2 ∙ ap (λ (m : ℕ). min (alongOf (offsetOf s x y)) m) eq in
     let er2 : r ≡ onEdge (quarterOf v) (edgeOf s x y) (min (alongOf (offsetOf s x y)) (quarterOf v)) =
-    er ∙ ap (λ (m : ℕ). onEdge m e u) eq ∙ ap (λ (m : ℕ). onEdge (quarterOf v) m u) ee ∙ ap (λ (m : ℕ). onEdge (quarterOf v) (edgeOf s x y) m) eu2 in
-    ap (λ (m : ℕ). At (m % n)) er2 ∙ ap (λ (m : ℕ). At (onEdge (quarterOf v) (edgeOf s x y) (min (alongOf (offsetOf s x y)) (quarterOf v)) % m)) en
+    er ∙ ap (λ (m : ℕ). onEdge m e u) eq ∙ ap (λ (m : ℕ). onEdge (quarterOf v) m u) ee
+    ∙ ap (λ (m : ℕ). onEdge (quarterOf v) (edgeOf s x y) m) eu2 in
+    ap (λ (m : ℕ). At (m % n)) er2
+    ∙ ap (λ (m : ℕ). At (onEdge (quarterOf v) (edgeOf s x y) (min (alongOf (offsetOf s x y)) (quarterOf v)) % m)) en
     ∙ place-in v x y h k
 
 -- what a call of `depth` gives, as the machine reads its argument back
@@ -200,7 +223,8 @@ outer-is v p n q ox oy rx ry en eq hv hx hy ex ey erx ery =
     let k = p % positionsOf v in
     let x1 : ox ≡ outerX (quarterOf v) k = ex ∙ ap (λ (m : ℕ). outerX m (p % n)) eq ∙ ap (λ (m : ℕ). outerX (quarterOf v) (p % m)) en in
     let y1 : oy ≡ outerY (quarterOf v) k = ey ∙ ap (λ (m : ℕ). outerY m (p % n)) eq ∙ ap (λ (m : ℕ). outerY (quarterOf v) (p % m)) en in
-    pair _ _ _ _ (low-reads ox (outerX (quarterOf v) k) rx (omega arith) erx x1) (low-reads oy (outerY (quarterOf v) k) ry (omega arith) ery y1)
+    pair _ _ _ _ (low-reads ox (outerX (quarterOf v) k) rx (omega arith) erx x1)
+    (low-reads oy (outerY (quarterOf v) k) ry (omega arith) ery y1)
 
 pub inner-is : (v p n q ox oy sx sy : ℕ) (rx ry : ℤ) → n ≡ positionsOf v → q ≡ quarterOf v → v < 256 → sx ≤ q → sy ≤ q
     → ox ≡ outerX q (p % n) → oy ≡ outerY q (p % n) → sx ≡ inward q ox → sy ≡ inward q oy → rx ≡ coordinate sx → ry ≡ coordinate sy
@@ -210,157 +234,22 @@ inner-is v p n q ox oy sx sy rx ry en eq hv hx hy ex ey esx esy erx ery =
     let k = p % positionsOf v in
     let x1 : ox ≡ outerX (quarterOf v) k = ex ∙ ap (λ (m : ℕ). outerX m (p % n)) eq ∙ ap (λ (m : ℕ). outerX (quarterOf v) (p % m)) en in
     let y1 : oy ≡ outerY (quarterOf v) k = ey ∙ ap (λ (m : ℕ). outerY m (p % n)) eq ∙ ap (λ (m : ℕ). outerY (quarterOf v) (p % m)) en in
-    let x2 : sx ≡ inward (quarterOf v) (outerX (quarterOf v) k) = esx ∙ ap (λ (m : ℕ). inward m ox) eq ∙ ap (λ (m : ℕ). inward (quarterOf v) m) x1 in
-    let y2 : sy ≡ inward (quarterOf v) (outerY (quarterOf v) k) = esy ∙ ap (λ (m : ℕ). inward m oy) eq ∙ ap (λ (m : ℕ). inward (quarterOf v) m) y1 in
+    let x2 : sx ≡ inward (quarterOf v) (outerX (quarterOf v) k) =
+    esx ∙ ap (λ (m : ℕ). inward m ox) eq ∙ ap (λ (m : ℕ). inward (quarterOf v) m) x1 in
+    let y2 : sy ≡ inward (quarterOf v) (outerY (quarterOf v) k) =
+    esy ∙ ap (λ (m : ℕ). inward m oy) eq ∙ ap (λ (m : ℕ). inward (quarterOf v) m) y1 in
     pair _ _ _ _ (low-reads sx (inward (quarterOf v) (outerX (quarterOf v) k)) rx (omega arith) erx x2)
     (low-reads sy (inward (quarterOf v) (outerY (quarterOf v) k)) ry (omega arith) ery y2)
 
 -- what calls give, as the machine reads their arguments back
-pub shell-given : (s d : ℕ) (x y : ℤ) → InRange x → InRange y → d ≡ shellOf s (toZ w32 (ofZ w32 x)) (toZ w32 (ofZ w32 y)) → d ≡ shellOf s x y
+pub shell-given : (s d : ℕ) (x y : ℤ) → InRange x → InRange y → d ≡ shellOf s (toZ w32 (ofZ w32 x)) (toZ w32 (ofZ w32 y))
+    → d ≡ shellOf s x y
 shell-given s d x y hx hy e = e ∙ ap (λ (z : ℤ). shellOf s z (toZ w32 (ofZ w32 y))) (read x hx) ∙ ap (λ (z : ℤ). shellOf s x z) (read y hy)
 
 pub edge-read : (s e : ℕ) (x y : ℤ) → InRange x → InRange y → e ≡ edgeOf s (toZ w32 (ofZ w32 x)) (toZ w32 (ofZ w32 y)) → e ≡ edgeOf s x y
 edge-read s e x y hx hy p = p ∙ ap (λ (z : ℤ). edgeOf s z (toZ w32 (ofZ w32 y))) (read x hx) ∙ ap (λ (z : ℤ). edgeOf s x z) (read y hy)
 
-pub offset-read : (s : ℕ) (o x y : ℤ) → InRange x → InRange y → o ≡ offsetOf s (toZ w32 (ofZ w32 x)) (toZ w32 (ofZ w32 y)) → o ≡ offsetOf s x y
-offset-read s o x y hx hy p = p ∙ ap (λ (z : ℤ). offsetOf s z (toZ w32 (ofZ w32 y))) (read x hx) ∙ ap (λ (z : ℤ). offsetOf s x z) (read y hy)
-
--- ---- the position of the outer cell of p is p
-
-pub depth-at : (s k : ℕ) → 3 ≤ s → depthOf s (coordinate k) ≡ max (3 - k) (k - (s + 2))
-depth-at s k h = go (ltb k 3) refl
-  where
-    go : (b : Bool) → ltb k 3 ≡ b → depthOf s (cond b (negsuc (3 - suc k)) (pos (k - 3))) ≡ max (3 - k) (k - (s + 2))
-    go true e = let l : k < 3 = ltb-true k 3 e in omega arith
-    go false e = let l : 3 ≤ k = ltb-false k 3 e in omega arith
-
-pub along-at : (k : ℕ) → alongOf (coordinate k) ≡ k
-along-at k = go (ltb k 3) refl
-  where
-    go : (b : Bool) → ltb k 3 ≡ b → alongOf (cond b (negsuc (3 - suc k)) (pos (k - 3))) ≡ k
-    go true e = let l : k < 3 = ltb-true k 3 e in omega arith
-    go false e = let l : 3 ≤ k = ltb-false k 3 e in omega arith
-
-sign-low : (k : ℕ) → k < 3 → nonNeg (coordinate k) ≡ false
-sign-low k h = rw (lt-ltb k 3 h)
-
-sign-high : (k : ℕ) → 3 ≤ k → nonNeg (coordinate k) ≡ true
-sign-high k h = rw (le-ltb k 3 h)
-
-level-yes : (v x y : ℕ) → 0 < max (3 - y) (y - (sideOf v + 2)) → max (3 - x) (x - (sideOf v + 2)) ≤ max (3 - y) (y - (sideOf v + 2))
-    → isLevel (sideOf v) (coordinate x) (coordinate y) ≡ true
-level-yes v x y h k =
-    let dx = depth-at (sideOf v) x (omega arith) in
-    let dy = depth-at (sideOf v) y (omega arith) in
-    rw (lt-ltb 0 (depthOf (sideOf v) (coordinate y)) (omega arith)) (le-leb (depthOf (sideOf v) (coordinate x)) (depthOf (sideOf v) (coordinate y)) (omega arith))
-
-level-no : (v x y : ℕ) → max (3 - y) (y - (sideOf v + 2)) < max (3 - x) (x - (sideOf v + 2)) → isLevel (sideOf v) (coordinate x) (coordinate y) ≡ false
-level-no v x y k =
-    let dx = depth-at (sideOf v) x (omega arith) in
-    let dy = depth-at (sideOf v) y (omega arith) in
-    both-no (ltb 0 (depthOf (sideOf v) (coordinate y))) _ (lt-leb (depthOf (sideOf v) (coordinate x)) (depthOf (sideOf v) (coordinate y)) (omega arith))
-  where
-    both-no : (a b : Bool) → b ≡ false → a && b ≡ false
-    both-no true b e = e
-    both-no false b e = refl
-
-least-is : (a q t : ℕ) → a ≡ t → t ≤ q → min a q ≡ t
-least-is a q t e h = omega arith
-
-shell-3 : (s d e x y : ℕ) → d ≡ x → e ≡ y → max x y ≡ 3 → max d e ≡ 3
-shell-3 s d e x y p q h = ap (λ (k : ℕ). max k e) p ∙ ap (λ (k : ℕ). max x k) q ∙ h
-
-reach : (v k : ℕ) → k ≤ quarterOf v → max (3 - k) (k - (sideOf v + 2)) ≤ 3
-reach v k h = omega arith
-
-reach-end : (v : ℕ) → max (3 - quarterOf v) (quarterOf v - (sideOf v + 2)) ≡ 3
-reach-end v = omega arith
-
-left-3 : (a b : ℕ) → a ≡ 3 → b ≤ 3 → max a b ≡ 3
-left-3 a b e h = omega arith
-
-right-3 : (a b : ℕ) → a ≤ 3 → b ≡ 3 → max a b ≡ 3
-right-3 a b h e = omega arith
-
--- a cell of the outer square, by its edge and its place there
-place-on : (v x y e t : ℕ) → (m : ℕ) → m ≡ 3 → max (max (3 - x) (x - (sideOf v + 2))) (max (3 - y) (y - (sideOf v + 2))) ≡ m
-    → e ≡ edgeOf (sideOf v) (coordinate x) (coordinate y) → coordinate t ≡ offsetOf (sideOf v) (coordinate x) (coordinate y) → t ≤ quarterOf v
-    → placeOf v (coordinate x) (coordinate y) ≡ At (onEdge (quarterOf v) e t % positionsOf v)
-unfolding positionOf
-place-on v x y e t m em d ee eo ht =
-    let dx = depth-at (sideOf v) x (omega arith) in
-    let dy = depth-at (sideOf v) y (omega arith) in
-    let a : alongOf (offsetOf (sideOf v) (coordinate x) (coordinate y)) ≡ t = sym (ap alongOf eo) ∙ along-at t in
-    let u : min (alongOf (offsetOf (sideOf v) (coordinate x) (coordinate y))) (quarterOf v) ≡ t = least-is _ _ t a ht in
-    let z : shellOf (sideOf v) (coordinate x) (coordinate y) ≡ 3 = shell-3 0 _ _ _ _ dx dy (d ∙ em) in
-    sym (place-in v (coordinate x) (coordinate y) (subst (λ (k : ℕ). 2 ≤ k) (sym z) (omega arith)) (subst (λ (k : ℕ). k ≤ 3) (sym z) (omega arith)))
-    ∙ ap (λ (k : ℕ). At (onEdge (quarterOf v) k (min (alongOf (offsetOf (sideOf v) (coordinate x) (coordinate y))) (quarterOf v)) % positionsOf v)) (sym ee)
-    ∙ ap (λ (k : ℕ). At (onEdge (quarterOf v) e k % positionsOf v)) u
-
-place-top : (v x : ℕ) → x ≤ quarterOf v → placeOf v (coordinate x) (coordinate 0) ≡ At (x % positionsOf v)
-unfolding onEdge
-place-top v x h =
-    let e = edge-top (sideOf v) (coordinate x) (coordinate 0) (level-yes v x 0 (omega arith) (omega arith)) (sign-low 0 (omega arith)) in
-    place-on v x 0 0 x 3 refl (omega arith) (e .0) (e .1) h
-
-place-bottom : (v x : ℕ) → x ≤ quarterOf v → placeOf v (coordinate x) (coordinate (quarterOf v)) ≡ At ((3 * quarterOf v - x) % positionsOf v)
-unfolding onEdge
-place-bottom v x h =
-    let e = edge-bottom (sideOf v) (coordinate x) (coordinate (quarterOf v)) (level-yes v x (quarterOf v) (omega arith) (omega arith)) (sign-high (quarterOf v) (omega arith)) in
-    place-on v x (quarterOf v) 2 x 3 refl (right-3 _ _ (reach v x h) (reach-end v)) (e .0) (e .1) h
-
-place-right : (v y : ℕ) → 1 ≤ y → y < quarterOf v → placeOf v (coordinate (quarterOf v)) (coordinate y) ≡ At ((quarterOf v + y) % positionsOf v)
-unfolding onEdge
-place-right v y h k =
-    let e = edge-right (sideOf v) (coordinate (quarterOf v)) (coordinate y) (level-no v (quarterOf v) y (omega arith)) (sign-high (quarterOf v) (omega arith)) in
-    place-on v (quarterOf v) y 1 y 3 refl (left-3 _ _ (reach-end v) (reach v y (omega arith))) (e .0) (e .1) (omega arith)
-
-place-left : (v y : ℕ) → 1 ≤ y → y < quarterOf v → placeOf v (coordinate 0) (coordinate y) ≡ At ((4 * quarterOf v - y) % positionsOf v)
-unfolding onEdge
-place-left v y h k =
-    let e = edge-left (sideOf v) (coordinate 0) (coordinate y) (level-no v 0 y (omega arith)) (sign-low 0 (omega arith)) in
-    place-on v 0 y 3 y 3 refl (omega arith) (e .0) (e .1) (omega arith)
-
--- a cell at given places
-at-places : (v x y x′ y′ : ℕ) (a : Place) → x ≡ x′ → y ≡ y′ → placeOf v (coordinate x) (coordinate y) ≡ a → placeOf v (coordinate x′) (coordinate y′) ≡ a
-at-places v x y x′ y′ a ex ey e =
-    sym (ap (λ (k : ℕ). placeOf v (coordinate x) (coordinate k)) ey ∙ ap (λ (k : ℕ). placeOf v (coordinate k) (coordinate y′)) ex) ∙ e
-
-at-position : (v k p : ℕ) → k ≡ p → p < positionsOf v → At (k % positionsOf v) ≡ At p
-at-position v k p e h = ap (λ (m : ℕ). At (m % positionsOf v)) e ∙ ap At (mod-eq-of-lt h)
-
-position-outer-at : (v p : ℕ) → p < positionsOf v → placeOf v (coordinate (outerX (quarterOf v) p)) (coordinate (outerY (quarterOf v) p)) ≡ At p
-position-outer-at v p h = go (leb p (quarterOf v)) refl (leb p (2 * quarterOf v)) refl (leb p (3 * quarterOf v)) refl (ltb (p - quarterOf v) (quarterOf v)) refl
-  where
-    go : (a : Bool) → leb p (quarterOf v) ≡ a → (b : Bool) → leb p (2 * quarterOf v) ≡ b → (c : Bool) → leb p (3 * quarterOf v) ≡ c
-        → (d : Bool) → ltb (p - quarterOf v) (quarterOf v) ≡ d
-        → placeOf v (coordinate (outerX (quarterOf v) p)) (coordinate (outerY (quarterOf v) p)) ≡ At p
-    go true ea b eb c ec d ed =
-        let l : p ≤ quarterOf v = leb-true p (quarterOf v) ea in
-        at-places v p 0 _ _ _ (outer-x-1 (quarterOf v) p l) (outer-y-1 (quarterOf v) p l) (place-top v p l ∙ at-position v p p refl h)
-    go false ea true eb c ec true ed =
-        let g : quarterOf v < p = leb-false p (quarterOf v) ea in
-        let l : p ≤ 2 * quarterOf v = leb-true p (2 * quarterOf v) eb in
-        let k : p - quarterOf v < quarterOf v = ltb-true (p - quarterOf v) (quarterOf v) ed in
-        at-places v (quarterOf v) (p - quarterOf v) _ _ _ (outer-x-2 (quarterOf v) p g l) (outer-y-2 (quarterOf v) p g l)
-        (place-right v (p - quarterOf v) (omega arith) k ∙ at-position v (quarterOf v + (p - quarterOf v)) p (omega arith) h)
-    go false ea true eb c ec false ed =
-        let g : quarterOf v < p = leb-false p (quarterOf v) ea in
-        let l : p ≤ 2 * quarterOf v = leb-true p (2 * quarterOf v) eb in
-        let k : quarterOf v ≤ p - quarterOf v = ltb-false (p - quarterOf v) (quarterOf v) ed in
-        let w : quarterOf v ≡ p - quarterOf v = omega arith in
-        at-places v (quarterOf v) (quarterOf v) _ _ _ (outer-x-2 (quarterOf v) p g l) (w ∙ outer-y-2 (quarterOf v) p g l)
-        (place-bottom v (quarterOf v) (omega arith) ∙ at-position v (3 * quarterOf v - quarterOf v) p (omega arith) h)
-    go false ea false eb true ec d ed =
-        let g : 2 * quarterOf v < p = leb-false p (2 * quarterOf v) eb in
-        let l : p ≤ 3 * quarterOf v = leb-true p (3 * quarterOf v) ec in
-        at-places v (3 * quarterOf v - p) (quarterOf v) _ _ _ (outer-x-3 (quarterOf v) p g l) (outer-y-3 (quarterOf v) p g l)
-        (place-bottom v (3 * quarterOf v - p) (omega arith) ∙ at-position v (3 * quarterOf v - (3 * quarterOf v - p)) p (omega arith) h)
-    go false ea false eb false ec d ed =
-        let g : 3 * quarterOf v < p = leb-false p (3 * quarterOf v) ec in
-        at-places v 0 (4 * quarterOf v - p) _ _ _ (outer-x-4 (quarterOf v) p g) (outer-y-4 (quarterOf v) p g)
-        (place-left v (4 * quarterOf v - p) (omega arith) (omega arith) ∙ at-position v (4 * quarterOf v - (4 * quarterOf v - p)) p (omega arith) h)
-
-pub position-outer : (v p : ℕ) → p < positionsOf v → placeOf v (outerCell v p .x) (outerCell v p .y) ≡ At p
-unfolding outerCell
-position-outer v p h = rw (mod-eq-of-lt h) (position-outer-at v p h)
+pub offset-read : (s : ℕ) (o x y : ℤ) → InRange x → InRange y → o ≡ offsetOf s (toZ w32 (ofZ w32 x)) (toZ w32 (ofZ w32 y))
+    → o ≡ offsetOf s x y
+offset-read s o x y hx hy p =
+    p ∙ ap (λ (z : ℤ). offsetOf s z (toZ w32 (ofZ w32 y))) (read x hx) ∙ ap (λ (z : ℤ). offsetOf s x z) (read y hy)

@@ -2,6 +2,7 @@
 --     version-known, version-refused   what the answer of `Version::new` says
 --     range-..                         what the range test says
 --     refuse-yes, refuse-no            one step of a chain of checks
+--     shell-at, place-at, edge-at      what a call of the inner function gives the door
 -- Assumes nothing.
 use mathlib.Core.Path.{_≡_, refl, sym, ap, _∙_, subst}
 use mathlib.Core.Bool.{Bool, true, false, not, _&&_}
@@ -15,8 +16,11 @@ use mir.Syntax.{w32}
 use mir.Val.{SFits, toZ, ofZ}
 use mir.ValLaws.{toZ-ofZ}
 use Rattle.lcr_core.specs.Version.{IsVersion, isVersion, versionAnswer, pickVersion, sideOf}
-use Rattle.lcr_core.specs.Border.{InRange, shellOf, placeOf}
+use Rattle.lcr_core.specs.Border.{InRange, shellOf, edgeOf, offsetOf, placeOf}
 use Rattle.lcr_core.proofs.Signed.{read}
+use Rattle.lcr_core.proofs.Cells.{edge-read, offset-read, offset-range}
+use Rattle.lcr_core.specs.declared.doors.EdgeAnswer.{EdgeAnswer}
+use Rattle.lcr_core.specs.declared.doors.EdgeAnswer.the-variants as edge
 use Rattle.lcr_core.specs.Doors.{inRange, orRefuse}
 use Rattle.lcr_core.specs.declared.version.Version.{Version}
 use Rattle.lcr_core.specs.declared.version.VersionAnswer.{VersionAnswer}
@@ -79,7 +83,8 @@ low-in (negsuc n) t = let h : n ≤ 32767 = ltb-false 32767 n t in sym (lt-ltb n
 pub range-low : (z : ℤ) → SFits w32 z → ltZ (toZ w32 (ofZ w32 z)) (negsuc 32767) ≡ true → false ≡ inRange z
 range-low z h t = low-out z (subst (λ (y : ℤ). ltZ y (negsuc 32767) ≡ true) (toZ-ofZ w32 z h) t)
 
-pub range-high : (z : ℤ) → SFits w32 z → ltZ (toZ w32 (ofZ w32 z)) (negsuc 32767) ≡ false → leZ (toZ w32 (ofZ w32 z)) (pos 32767) ≡ inRange z
+pub range-high : (z : ℤ) → SFits w32 z → ltZ (toZ w32 (ofZ w32 z)) (negsuc 32767) ≡ false
+    → leZ (toZ w32 (ofZ w32 z)) (pos 32767) ≡ inRange z
 range-high z h t =
     ap (λ (y : ℤ). leZ y (pos 32767)) (toZ-ofZ w32 z h) ∙ low-in z (subst (λ (y : ℤ). ltZ y (negsuc 32767) ≡ false) (toZ-ofZ w32 z h) t)
 
@@ -96,10 +101,22 @@ range-read z h e = subst InRange (sym (toZ-ofZ w32 z h)) (range-is z e)
 pub shell-at : (v w : ℕ) (x y : ℤ) → w ≡ v → InRange x → InRange y
     → shellOf (sideOf w) (toZ w32 (ofZ w32 x)) (toZ w32 (ofZ w32 y)) ≡ shellOf (sideOf v) x y
 shell-at v w x y e hx hy =
-    ap (λ (n : ℕ). shellOf (sideOf n) (toZ w32 (ofZ w32 x)) (toZ w32 (ofZ w32 y))) e ∙ ap (λ (z : ℤ). shellOf (sideOf v) z (toZ w32 (ofZ w32 y))) (read x hx)
+    ap (λ (n : ℕ). shellOf (sideOf n) (toZ w32 (ofZ w32 x)) (toZ w32 (ofZ w32 y))) e
+    ∙ ap (λ (z : ℤ). shellOf (sideOf v) z (toZ w32 (ofZ w32 y))) (read x hx)
     ∙ ap (λ (z : ℤ). shellOf (sideOf v) x z) (read y hy)
 
 pub place-at : (v w : ℕ) (x y : ℤ) → w ≡ v → InRange x → InRange y → placeOf w (toZ w32 (ofZ w32 x)) (toZ w32 (ofZ w32 y)) ≡ placeOf v x y
 place-at v w x y e hx hy =
     ap (λ (n : ℕ). placeOf n (toZ w32 (ofZ w32 x)) (toZ w32 (ofZ w32 y))) e ∙ ap (λ (z : ℤ). placeOf v z (toZ w32 (ofZ w32 y))) (read x hx)
     ∙ ap (λ (z : ℤ). placeOf v x z) (read y hy)
+
+pub edge-at : (v w e : ℕ) (o x y : ℤ) → w ≡ v → InRange x → InRange y
+    → e ≡ edgeOf (sideOf w) (toZ w32 (ofZ w32 x)) (toZ w32 (ofZ w32 y))
+    → o ≡ offsetOf (sideOf w) (toZ w32 (ofZ w32 x)) (toZ w32 (ofZ w32 y))
+    → _≡_ {A = EdgeAnswer} (edge.Along e (toZ w32 (ofZ w32 o))) (edge.Along (edgeOf (sideOf v) x y) (offsetOf (sideOf v) x y))
+edge-at v w e o x y ew hx hy ee eo =
+    let e1 : e ≡ edgeOf (sideOf v) x y = edge-read (sideOf w) e x y hx hy ee ∙ ap (λ (n : ℕ). edgeOf (sideOf n) x y) ew in
+    let o1 : o ≡ offsetOf (sideOf v) x y = offset-read (sideOf w) o x y hx hy eo ∙ ap (λ (n : ℕ). offsetOf (sideOf n) x y) ew in
+    let o2 : toZ w32 (ofZ w32 o) ≡ offsetOf (sideOf v) x y =
+    read o (subst InRange (sym o1) (offset-range (sideOf v) x y hx hy)) ∙ o1 in
+    cc

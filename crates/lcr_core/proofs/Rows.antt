@@ -18,6 +18,7 @@ use lib.ListN.{length, getD, set}
 use lib.Seq.{getD-set-same, getD-set-other}
 use Rattle.lcr_core.specs.Ring.{ringBytes}
 use Rattle.lcr_core.specs.Version.{IsVersion, positionsOf}
+use Rattle.lcr_core.specs.Claims.{RowOf}
 use Rattle.lcr_core.specs.Mark.{rowLength, rowStart, rowsThrough, ringByte, bitAt, markAt, mark, RowMarks, AllMarks}
 
 pub table-length : length ringBytes ≡ 4864
@@ -83,6 +84,9 @@ pub row-bits : (v : ℕ) → IsVersion v → 8 * rowLength v ≡ positionsOf v
 unfolding rowsRight starts ends bits
 row-bits v h = eqb→eq (8 * rowLength v) (positionsOf v) (right (ends v) (bits v) (right (starts v) (ends v && bits v) (rows v h)))
 
+pub row-of : (v : ℕ) → IsVersion v → RowOf v
+row-of v h = record { within = let z = row-end v h in omega (arith, table-length); bits = row-bits v h }
+
 pub byte-within : (v p : ℕ) → IsVersion v → p < positionsOf v → rowStart v + p / 8 < 4864
 byte-within v p h k = let z = row-end v h in omega arith
 
@@ -94,7 +98,8 @@ pub light-is : (v p n start : ℕ) → n ≡ positionsOf v → start ≡ rowStar
     → eqb (bitAnd (getD ringBytes (start + p % n / 8) 0 / 2 ^ (p % n % 8)) 1) 1 ≡ mark v p
 unfolding mark markAt ringByte
 light-is v p n start en es =
-    mark-bit (getD ringBytes (start + p % n / 8) 0) (p % n % 8) ∙ ap (λ (m : ℕ). bitAt (getD ringBytes (start + p % m / 8) 0) (p % m % 8)) en
+    mark-bit (getD ringBytes (start + p % n / 8) 0) (p % n % 8)
+    ∙ ap (λ (m : ℕ). bitAt (getD ringBytes (start + p % m / 8) 0) (p % m % 8)) en
     ∙ ap (λ (m : ℕ). bitAt (getD ringBytes (m + p % positionsOf v / 8) 0) (p % positionsOf v % 8)) es
 
 pub start-small : (v : ℕ) → IsVersion v → rowStart v < 4864
@@ -135,7 +140,8 @@ marks-turn table start k s b l e m = record { at = λ p h. go p h (eqb p k) refl
 pub marks-done : (table : List ℕ) (start k n : ℕ) (s : List Bool) → k ≡ n → RowMarks table start k s → RowMarks table start n s
 marks-done table start k n s e m = subst (λ (x : ℕ). RowMarks table start x s) e m
 
-pub marks-all : (v n g start : ℕ) (s : List Bool) → n ≡ positionsOf v → g ≡ v → start ≡ rowStart g → RowMarks ringBytes start n s → AllMarks v s
+pub marks-all : (v n g start : ℕ) (s : List Bool) → n ≡ positionsOf v → g ≡ v → start ≡ rowStart g → RowMarks ringBytes start n s
+    → AllMarks v s
 unfolding mark markAt ringByte
 marks-all v n g start s en eg es m =
     record {
@@ -145,7 +151,8 @@ marks-all v n g start s en eg es m =
     }
 
 -- what filling asks
-pub row-room : (v n g start : ℕ) → IsVersion v → n ≡ positionsOf v → g ≡ v → start ≡ rowStart g → (start < 4864) × (n < 4096) × (start + (n + 7) / 8 ≤ 4864)
+pub row-room : (v n g start : ℕ) → IsVersion v → n ≡ positionsOf v → g ≡ v → start ≡ rowStart g
+    → (start < 4864) × (n < 4096) × (start + (n + 7) / 8 ≤ 4864)
 row-room v n g start h en eg es =
     let z : rowStart g ≡ rowStart v = ap rowStart eg in
     let r = row-end v h in

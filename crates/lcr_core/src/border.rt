@@ -1,14 +1,30 @@
-// The ring round a symbol, from border.rs: cells, positions and marks.
+// The ring round a symbol, from border.rs: its marks, and its cells and their positions.
 ghost use mathlib.Core.Path.{_≡_};
-ghost use mathlib.Core.Bool.{not, _&&_};
-ghost use lib.Dec.{leb, ltb};
-ghost use Prim.Native.Nat.{_<_, _≤_, _+_, _*_, _/_, _%_, min};
+ghost use Prim.Native.Nat.{_<_, _≤_, _+_, _/_};
 ghost use lib.ListN.{length};
-ghost use lib.Signed.{nonNeg};
 ghost use Rattle.lcr_core.specs.Version.{sideOf, positionsOf, quarterOf, IsVersion};
 ghost use Rattle.lcr_core.specs.Mark.{mark, rowStart, bitAt, RowMarks, AllMarks};
-ghost use Rattle.lcr_core.specs.Border.{InRange, depthOf, shellOf, coordinate, alongOf, isLevel, edgeOf, offsetOf, onEdge, placeOf, outerX, outerY, inward, outerCell, innerCell, isTwoDeep};
+ghost use Rattle.lcr_core.specs.Border.{
+  InRange,
+  shellOf,
+  edgeOf,
+  offsetOf,
+  placeOf,
+  outerCell,
+  innerCell,
+  isTwoDeep,
+};
 use crate::border_seq::RING;
+use crate::places::along;
+use crate::places::clamped;
+use crate::places::depth;
+use crate::places::from_low;
+use crate::places::is_level;
+use crate::places::is_negative;
+use crate::places::on_edge;
+use crate::places::outer_x;
+use crate::places::outer_y;
+use crate::places::stepped;
 use crate::version::Version;
 
 // A cell: signed coordinates in cells, 0 at the symbol's top left.
@@ -82,32 +98,6 @@ pub fn sequence(version: Version, out: &mut [bool])
     fill_marks(&ring, start, n, out);
 }
 
-// Whether a coordinate is below 0.
-fn is_negative(c: i32) -> bool
-    ensures { λ r. ⌜ r ≡ not (nonNeg c) ⌝ }
-{
-    if c < 0 {
-        return true;
-    }
-    false
-}
-
-// How far outside the symbol a coordinate lies.
-fn depth(c: i32, side: usize) -> usize
-    requires { ⌜ InRange c ⌝ }
-    requires { ⌜ 0 < side ⌝ }
-    ensures { λ r. ⌜ r ≡ depthOf side c ⌝ }
-{
-    if c < 0 {
-        return (-c) as usize;
-    }
-    let n = c as usize;
-    if n < side {
-        return 0;
-    }
-    n - side + 1
-}
-
 // How far outside the symbol a cell lies.
 pub fn shell(x: i32, y: i32, version: Version) -> usize
     requires { ⌜ InRange x ⌝ }
@@ -123,35 +113,8 @@ pub fn shell(x: i32, y: i32, version: Version) -> usize
     dx
 }
 
-// A coordinate's place, counted from -3.
-fn along(c: i32, side: usize) -> usize
-    requires { ⌜ InRange c ⌝ }
-    requires { ⌜ depthOf side c ≤ 3 ⌝ }
-    ensures { λ r. ⌜ r ≡ alongOf c ⌝ }
-{
-    (c + 3) as usize
-}
-
-// A place's coordinate.
-fn from_low(k: usize) -> i32
-    requires { ⌜ k < 4096 ⌝ }
-    ensures { λ r. ⌜ r ≡ coordinate k ⌝ }
-{
-    (k as i32) - 3
-}
-
-// Whether a cell so deep in x and y lies on the top or bottom edge.
-fn is_level(dx: usize, dy: usize) -> bool
-    ensures { λ r. ⌜ r ≡ (ltb 0 dy && leb dx dy) ⌝ }
-{
-    if 0 < dy {
-        return dx <= dy;
-    }
-    false
-}
-
 // Which edge a cell sits on, and its coordinate along it.
-fn edge_and_offset(x: i32, y: i32, version: Version) -> EdgeOffset
+pub fn edge_and_offset(x: i32, y: i32, version: Version) -> EdgeOffset
     requires { ⌜ InRange x ⌝ }
     requires { ⌜ InRange y ⌝ }
     ensures { λ r. ⌜ r .edge ≡ edgeOf (sideOf (version .0)) x y ⌝ }
@@ -170,34 +133,6 @@ fn edge_and_offset(x: i32, y: i32, version: Version) -> EdgeOffset
         return EdgeOffset { edge: 3, offset: y };
     }
     EdgeOffset { edge: 1, offset: y }
-}
-
-// The position at a place of an edge.
-fn on_edge(q: usize, edge: usize, u: usize) -> usize
-    requires { ⌜ q < 4096 ⌝ }
-    requires { ⌜ u ≤ q ⌝ }
-    ensures { λ r. ⌜ r ≡ onEdge q edge u ⌝ }
-{
-    if edge == 0 {
-        return u;
-    }
-    if edge == 1 {
-        return q + u;
-    }
-    if edge == 2 {
-        return 3 * q - u;
-    }
-    4 * q - u
-}
-
-// The place along an edge, at most q.
-fn clamped(u: usize, q: usize) -> usize
-    ensures { λ r. ⌜ r ≡ min u q ⌝ }
-{
-    if u < q {
-        return u;
-    }
-    q
 }
 
 // A quarter of the positions of a version.
@@ -225,58 +160,6 @@ pub fn position(x: i32, y: i32, version: Version) -> Place
     let e = edge_and_offset(x, y, version);
     let u = clamped(along(e.offset, version.side() as usize), q);
     Place::At(on_edge(q, e.edge, u) % n)
-}
-
-// The outer cell of a position, across and down, in places.
-fn outer_x(q: usize, p: usize) -> usize
-    requires { ⌜ q < 4096 ⌝ }
-    ensures within { λ r. ⌜ r ≤ q ⌝ }
-    ensures { λ r. ⌜ r ≡ outerX q p ⌝ }
-{
-    if p <= q {
-        return p;
-    }
-    if p <= 2 * q {
-        return q;
-    }
-    if p <= 3 * q {
-        return 3 * q - p;
-    }
-    0
-}
-
-fn outer_y(q: usize, p: usize) -> usize
-    requires { ⌜ q < 4096 ⌝ }
-    requires { ⌜ p < 4 * q ⌝ }
-    ensures within { λ r. ⌜ r ≤ q ⌝ }
-    ensures { λ r. ⌜ r ≡ outerY q p ⌝ }
-{
-    if p <= q {
-        return 0;
-    }
-    if p <= 2 * q {
-        return p - q;
-    }
-    if p <= 3 * q {
-        return q;
-    }
-    4 * q - p
-}
-
-// One step inward from either end.
-fn stepped(q: usize, k: usize) -> usize
-    requires { ⌜ 1 < q ⌝ }
-    requires { ⌜ k ≤ q ⌝ }
-    ensures within { λ r. ⌜ r ≤ q ⌝ }
-    ensures { λ r. ⌜ r ≡ inward q k ⌝ }
-{
-    if k == 0 {
-        return 1;
-    }
-    if k == q {
-        return q - 1;
-    }
-    k
 }
 
 // The outer cell of a position, reduced modulo the positions.

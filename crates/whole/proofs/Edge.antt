@@ -9,7 +9,29 @@ use Rattle.whole.proofs.Sums.{⊕-𝟘, 𝟘-⊕, ⊗-𝟘, 𝟘-⊗, �
 use Rattle.whole.proofs.Ring.{Expr, 𝕧, 𝕜, _:+_, _:-_, _:*_, :n, solve}
 use Rattle.whole.proofs.Ord.{pn, nn+, pn+, np+, nn*, pp*, p0, nn≡, pp≡, z0, p1, above1, pnn, anti, nsplit, cmp, divN, divP}
 use Rattle.whole.specs.Points.{Pt, cross, d2, Mem}
-use Rattle.whole.proofs.Turns.{dot, lin, X, Y, C, D, S, L, O, env, swap, cross-o, plu, tri, d2N, d2-0, d2-self, Ge, At, ge-top, lin-self}
+use Rattle.whole.proofs.Turns.{
+  dot,
+  lin,
+  X,
+  Y,
+  C,
+  D,
+  S,
+  L,
+  O,
+  env,
+  swap,
+  cross-o,
+  plu,
+  tri,
+  d2N,
+  d2-0,
+  d2-self,
+  Ge,
+  At,
+  ge-top,
+  lin-self,
+}
 
 unfoldable pub Side : Pt → Pt → Pt → Type 0
 Side a b p = NN (cross a b p) × (cross a b p ≡ 𝟘 → NN (neg (dot p a b)))
@@ -22,9 +44,12 @@ Ext P c = (f : Pt) × ((p : Pt) → Mem p P → At f c p)
 
 -- ---- identities
 -- H (u·w − |u|²) = (K − H) |u|² + X (..), with u = p − c, w = n − c, H = f·u, K = f·w, X = (n−c)×(p−c)
-id1 : (f c n p : Pt) → lin f c p ⊗ neg (dot p c n) ≡ (lin f c n ⊕ neg (lin f c p)) ⊗ d2 c p ⊕ cross c n p ⊗ (f .y ⊗ (p .x ⊕ neg (c .x)) ⊕ neg (f .x ⊗ (p .y ⊕ neg (c .y))))
+id1 : (f c n p : Pt)
+    → lin f c p ⊗ neg (dot p c n)
+    ≡ (lin f c n ⊕ neg (lin f c p)) ⊗ d2 c p ⊕ cross c n p ⊗ (f .y ⊗ (p .x ⊕ neg (c .x)) ⊕ neg (f .x ⊗ (p .y ⊕ neg (c .y))))
 unfolding lin dot d2 cross
-id1 f c n p = solve (env (f ∷ c ∷ n ∷ p ∷ [])) (L 0 1 3 :* :n (D 3 1 2)) ((L 0 1 2 :- L 0 1 3) :* S 1 3 :+ C 1 2 3 :* (Y 0 :* (X 3 :- X 1) :- X 0 :* (Y 3 :- Y 1))) refl
+id1 f c n p = solve (env (f ∷ c ∷ n ∷ p ∷ [])) (L 0 1 3 :* :n (D 3 1 2))
+    ((L 0 1 2 :- L 0 1 3) :* S 1 3 :+ C 1 2 3 :* (Y 0 :* (X 3 :- X 1) :- X 0 :* (Y 3 :- Y 1))) refl
 
 -- the same with differences as variables: far fewer monomials
 abbrev sub : Pt → Pt → Pt
@@ -36,17 +61,25 @@ V× a b = X a :* Y b :- Y a :* X b
 abbrev V· : ℕ → ℕ → Expr
 V· a b = X a :* X b :+ Y a :* Y b
 
-id2 : (f c n p : Pt) → (lin f c p ⊗ lin f c p) ⊗ (dot c n n ⊕ neg (dot c p p)) ≡ dot c p p ⊗ ((lin f c n ⊕ lin f c p) ⊗ (lin f c n ⊕ neg (lin f c p))) ⊕ cross c n p ⊗ (f .y ⊗ (lin f c p ⊗ (n .x ⊕ neg (c .x)) ⊕ lin f c n ⊗ (p .x ⊕ neg (c .x))) ⊕ neg (f .x ⊗ (lin f c p ⊗ (n .y ⊕ neg (c .y)) ⊕ lin f c n ⊗ (p .y ⊕ neg (c .y)))))
+id2 : (f c n p : Pt)
+    → (lin f c p ⊗ lin f c p) ⊗ (dot c n n ⊕ neg (dot c p p))
+    ≡ dot c p p ⊗ ((lin f c n ⊕ lin f c p) ⊗ (lin f c n ⊕ neg (lin f c p))) ⊕ cross c n p ⊗
+    (f .y ⊗ (lin f c p ⊗ (n .x ⊕ neg (c .x)) ⊕ lin f c n ⊗ (p .x ⊕ neg (c .x))) ⊕ neg
+    (f .x ⊗ (lin f c p ⊗ (n .y ⊕ neg (c .y)) ⊕ lin f c n ⊗ (p .y ⊕ neg (c .y)))))
 unfolding lin dot cross
-id2 f c n p = solve (env (f ∷ sub p c ∷ sub n c ∷ [])) ((V· 0 1 :* V· 0 1) :* (V· 2 2 :- V· 1 1)) (V· 1 1 :* ((V· 0 2 :+ V· 0 1) :* (V· 0 2 :- V· 0 1)) :+ V× 2 1 :* (Y 0 :* (V· 0 1 :* X 2 :+ V· 0 2 :* X 1) :- X 0 :* (V· 0 1 :* Y 2 :+ V· 0 2 :* Y 1))) refl
+id2 f c n p = solve (env (f ∷ sub p c ∷ sub n c ∷ [])) ((V· 0 1 :* V· 0 1) :* (V· 2 2 :- V· 1 1))
+    (V· 1 1 :* ((V· 0 2 :+ V· 0 1) :* (V· 0 2 :- V· 0 1)) :+ V× 2 1 :*
+    (Y 0 :* (V· 0 1 :* X 2 :+ V· 0 2 :* X 1) :- X 0 :* (V· 0 1 :* Y 2 :+ V· 0 2 :* Y 1))) refl
 
 pub d2-dot : (c p : Pt) → d2 c p ≡ dot c p p
 unfolding d2 dot
 d2-dot c p = solve (env (c ∷ p ∷ [])) (S 0 1) (D 0 1 1) refl
 
-id3 : (f e a b : Pt) → lin f e a ⊗ dot e a b ≡ lin f e b ⊗ d2 e a ⊕ cross a b e ⊗ (f .x ⊗ (a .y ⊕ neg (e .y)) ⊕ neg (f .y ⊗ (a .x ⊕ neg (e .x))))
+id3 : (f e a b : Pt)
+    → lin f e a ⊗ dot e a b ≡ lin f e b ⊗ d2 e a ⊕ cross a b e ⊗ (f .x ⊗ (a .y ⊕ neg (e .y)) ⊕ neg (f .y ⊗ (a .x ⊕ neg (e .x))))
 unfolding lin d2 cross dot
-id3 f e a b = solve (env (f ∷ e ∷ a ∷ b ∷ [])) (L 0 1 2 :* D 1 2 3) (L 0 1 3 :* S 1 2 :+ C 2 3 1 :* (X 0 :* (Y 2 :- Y 1) :- Y 0 :* (X 2 :- X 1))) refl
+id3 f e a b = solve (env (f ∷ e ∷ a ∷ b ∷ [])) (L 0 1 2 :* D 1 2 3)
+    (L 0 1 3 :* S 1 2 :+ C 2 3 1 :* (X 0 :* (Y 2 :- Y 1) :- Y 0 :* (X 2 :- X 1))) refl
 
 id4 : (a b p : Pt) → dot b a p ≡ d2 b p ⊕ neg (dot p a b)
 unfolding d2 dot
@@ -78,7 +111,10 @@ side-of f c n p (inl e) (inr hp) g = absurd (p0 hp (ap (lin f c) (ge-top c p (su
 side-of f c n p (inr hn) (inr hp) g = (
   g .0,
   λ e.
-      let kh : NN (lin f c n ⊕ neg (lin f c p)) = divN (pn+ hn (pn hp)) (divN (pp≡ (d2P f c p hp) (d2-dot c p)) (nn≡ (nn* (pn (pp* hp hp)) (rw (← d2-dot, ← d2-dot) (g .1 e))) (id2 f c n p ∙ drop0 _ _ _ e))) in
+      let kh : NN (lin f c n ⊕ neg (lin f c p)) =
+      divN (pn+ hn (pn hp))
+      (divN (pp≡ (d2P f c p hp) (d2-dot c p))
+      (nn≡ (nn* (pn (pp* hp hp)) (rw (← d2-dot, ← d2-dot) (g .1 e))) (id2 f c n p ∙ drop0 _ _ _ e))) in
       divN hp (nn≡ (nn* kh (d2N c p)) (sym (id1 f c n p ∙ drop0 _ _ _ e))),
 )
 
@@ -101,13 +137,18 @@ bound g (q ∷ P) = let r = bound g P in let u = one (g q) (cmp (g q)) in
     r2 : (a b c : ℤ) → (a ⊕ c) ⊕ b ≡ a ⊕ b ⊕ c
     r2 a b c = solve (a ∷ b ∷ c ∷ []) (𝕧 0 :+ 𝕧 2 :+ 𝕧 1) (𝕧 0 :+ 𝕧 1 :+ 𝕧 2) refl
 
-    both : (q : Pt) (P : List Pt) (m u : ℤ) → NN m → NN u → PP (u ⊕ g q) → ((p : Pt) → Mem p P → PP (m ⊕ g p)) → (p : Pt) → Mem p (q ∷ P) → PP (m ⊕ u ⊕ g p)
+    both : (q : Pt) (P : List Pt) (m u : ℤ) → NN m → NN u → PP (u ⊕ g q) → ((p : Pt) → Mem p P → PP (m ⊕ g p)) → (p : Pt) → Mem p (q ∷ P)
+        → PP (m ⊕ u ⊕ g p)
     both q P m u hm hu k h p (List·Memᴰ·head e) = subst (λ t. PP (m ⊕ u ⊕ g t)) (sym e) (pp≡ (pn+ k hm) (r1 m u (g q)))
     both q P m u hm hu k h p (List·Memᴰ·tail t) = pp≡ (pn+ (h p t) hu) (r2 m u (g p))
 
-id6 : (m : ℤ) (a b p : Pt) → (m ⊗ neg (b .y ⊕ neg (a .y)) ⊕ (a .x ⊕ neg (b .x))) ⊗ (p .x ⊕ neg (b .x)) ⊕ (m ⊗ (b .x ⊕ neg (a .x)) ⊕ (a .y ⊕ neg (b .y))) ⊗ (p .y ⊕ neg (b .y)) ≡ m ⊗ cross a b p ⊕ dot b a p
+id6 : (m : ℤ) (a b p : Pt)
+    → (m ⊗ neg (b .y ⊕ neg (a .y)) ⊕ (a .x ⊕ neg (b .x))) ⊗ (p .x ⊕ neg (b .x)) ⊕ (m ⊗ (b .x ⊕ neg (a .x)) ⊕ (a .y ⊕ neg (b .y))) ⊗
+    (p .y ⊕ neg (b .y)) ≡ m ⊗ cross a b p ⊕ dot b a p
 unfolding cross dot
-id6 m a b p = solve (m ∷ m ∷ env (a ∷ b ∷ p ∷ [])) ((𝕧 0 :* :n (Y 2 :- Y 1) :+ (X 1 :- X 2)) :* (X 3 :- X 2) :+ (𝕧 0 :* (X 2 :- X 1) :+ (Y 1 :- Y 2)) :* (Y 3 :- Y 2)) (𝕧 0 :* C 1 2 3 :+ D 2 1 3) refl
+id6 m a b p = solve (m ∷ m ∷ env (a ∷ b ∷ p ∷ []))
+    ((𝕧 0 :* :n (Y 2 :- Y 1) :+ (X 1 :- X 2)) :* (X 3 :- X 2) :+ (𝕧 0 :* (X 2 :- X 1) :+ (Y 1 :- Y 2)) :* (Y 3 :- Y 2))
+    (𝕧 0 :* C 1 2 3 :+ D 2 1 3) refl
 
 ring-more : (m w d : ℤ) → m ⊗ w ⊕ (m ⊕ d) ≡ m ⊗ (𝟙 ⊕ w) ⊕ d
 unfolding 𝟙
@@ -169,7 +210,8 @@ strict f e a b ha hb s = go (nsplit (s .0))
     go (inr q) = q
 
 -- ---- and in no triangle of three others
-pub not-inside : (f e a b c : Pt) → NN (lin f e a) → PP (lin f e b) → NN (lin f e c) → NN (cross b c e) → PP (cross c a e) → NN (cross a b e) → ⊥
+pub not-inside : (f e a b c : Pt) → NN (lin f e a) → PP (lin f e b) → NN (lin f e c) → NN (cross b c e) → PP (cross c a e)
+    → NN (cross a b e) → ⊥
 not-inside f e a b c ha hb hc α β γ = p0 (pn+ (np+ (nn* α ha) (pp* β hb)) (nn* γ hc)) (tri f a b c e)
 
 -- ---- turns about an extreme point are transitive

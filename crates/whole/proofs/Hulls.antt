@@ -34,7 +34,12 @@ lex-trans : (a b c : Pt) → LexLe a b → LexLe b c → LexLe a c
 lex-trans a b c (inl p) (inl q) = inl (pp≡ (pn+ p (pn q)) (ring3 (a .x) (b .x) (c .x)))
 lex-trans a b c (inl p) (inr q) = inl (pp≡ p (sym (⊕-𝟘 _) ∙ ap (λ t. b .x ⊕ neg (a .x) ⊕ t) (sym (q .0)) ∙ ring3 (a .x) (b .x) (c .x)))
 lex-trans a b c (inr p) (inl q) = inl (pp≡ q (sym (𝟘-⊕ _) ∙ ap (λ t. t ⊕ (c .x ⊕ neg (b .x))) (sym (p .0)) ∙ ring3 (a .x) (b .x) (c .x)))
-lex-trans a b c (inr p) (inr q) = inr (sym (ring3 (a .x) (b .x) (c .x)) ∙ ap (λ t. t ⊕ (c .x ⊕ neg (b .x))) (p .0) ∙ 𝟘-⊕ _ ∙ q .0, nn≡ (nn+ (p .1) (q .1)) (ring3 (a .y) (b .y) (c .y)))
+lex-trans a b c (inr p) (inr q) =
+    inr (
+      sym (ring3 (a .x) (b .x) (c .x)) ∙ ap (λ t. t ⊕ (c .x ⊕ neg (b .x))) (p .0) ∙ 𝟘-⊕ _
+          ∙ q .0,
+      nn≡ (nn+ (p .1) (q .1)) (ring3 (a .y) (b .y) (c .y)),
+    )
 
 nn-of : (n : ℕ) → NN (neg (negsuc n))
 unfolding neg
@@ -47,7 +52,8 @@ pp-of n = pp n
 lower-true : (a b : Pt) (s t : ℤ) → a .x ⊕ neg (b .x) ≡ s → a .y ⊕ neg (b .y) ≡ t → isNeg s || (isZero s && isNeg t) ≡ true → LexLe a b
 unfolding 𝟘
 lower-true a b (pos zero) (pos m) e d h = absurd (mathlib.Core.Bool.false≢true h)
-lower-true a b (pos zero) (negsuc m) e d h = inr (sym (rneg (a .x) (b .x)) ∙ ap neg e ∙ nz, nn≡ (nn-of m) (ap neg (sym d) ∙ rneg (a .y) (b .y)))
+lower-true a b (pos zero) (negsuc m) e d h =
+    inr (sym (rneg (a .x) (b .x)) ∙ ap neg e ∙ nz, nn≡ (nn-of m) (ap neg (sym d) ∙ rneg (a .y) (b .y)))
   where
     nz : neg (pos zero) ≡ pos zero
     nz = sym (𝟘-⊕ (neg 𝟘)) ∙ ⊕-neg 𝟘
@@ -62,12 +68,15 @@ lower-false a b (pos (suc m)) t e d h = inl (pp≡ (pp m) (sym e))
 lower-false a b (negsuc m) t e d h = absurd (mathlib.Core.Bool.true≢false h)
 
 module _ {S : Type 0} (pt : S → Pt) where
-  least-ok : (n : S) (is : List S) → LexLe (pt (least pt n is)) (pt n) × ((i : S) → List·Memᴰ i is → LexLe (pt (least pt n is)) (pt i)) × List·Memᴰ (least pt n is) (n ∷ is)
+  least-ok : (n : S) (is : List S)
+      → LexLe (pt (least pt n is)) (pt n) × ((i : S) → List·Memᴰ i is → LexLe (pt (least pt n is)) (pt i))
+      × List·Memᴰ (least pt n is) (n ∷ is)
   unfolding least lower
   least-ok n [] = (lex-refl (pt n), (λ i m. elim m [ ]), List·Memᴰ·head refl)
   least-ok n (i ∷ is) = go (lower (pt i) (pt n)) refl (λ m. least-ok m is)
     where
-      all' : (r : S) → LexLe (pt r) (pt i) → ((j : S) → List·Memᴰ j is → LexLe (pt r) (pt j)) → (j : S) → List·Memᴰ j (i ∷ is) → LexLe (pt r) (pt j)
+      all' : (r : S) → LexLe (pt r) (pt i) → ((j : S) → List·Memᴰ j is → LexLe (pt r) (pt j)) → (j : S) → List·Memᴰ j (i ∷ is)
+          → LexLe (pt r) (pt j)
       all' r g h j (List·Memᴰ·head e) = subst (λ t. LexLe (pt r) (pt t)) (sym e) g
       all' r g h j (List·Memᴰ·tail t) = h j t
 
@@ -78,10 +87,16 @@ module _ {S : Type 0} (pt : S → Pt) where
       in-n (List·Memᴰ·head e) = List·Memᴰ·head e
       in-n (List·Memᴰ·tail t) = List·Memᴰ·tail (List·Memᴰ·tail t)
 
-      go : (b : Bool) → lower (pt i) (pt n) ≡ b → ((m : S) → LexLe (pt (least pt m is)) (pt m) × ((i : S) → List·Memᴰ i is → LexLe (pt (least pt m is)) (pt i)) × List·Memᴰ (least pt m is) (m ∷ is))
-          → LexLe (pt (least pt (elim b [ true ↦ i | false ↦ n ]) is)) (pt n) × ((j : S) → List·Memᴰ j (i ∷ is) → LexLe (pt (least pt (elim b [ true ↦ i | false ↦ n ]) is)) (pt j)) × List·Memᴰ (least pt (elim b [ true ↦ i | false ↦ n ]) is) (n ∷ i ∷ is)
-      go true h rec = let r = rec i in (lex-trans _ (pt i) (pt n) (r .0) (lower-true (pt i) (pt n) _ _ refl refl h), all' _ (r .0) (r .1), in-i (r .2))
-      go false h rec = let r = rec n in (r .0, all' _ (lex-trans _ (pt n) (pt i) (r .0) (lower-false (pt i) (pt n) _ _ refl refl h)) (r .1), in-n (r .2))
+      go : (b : Bool) → lower (pt i) (pt n) ≡ b
+          → ((m : S) → LexLe (pt (least pt m is)) (pt m) × ((i : S) → List·Memᴰ i is → LexLe (pt (least pt m is)) (pt i))
+          × List·Memᴰ (least pt m is) (m ∷ is))
+          → LexLe (pt (least pt (elim b [ true ↦ i | false ↦ n ]) is)) (pt n)
+          × ((j : S) → List·Memᴰ j (i ∷ is) → LexLe (pt (least pt (elim b [ true ↦ i | false ↦ n ]) is)) (pt j))
+          × List·Memᴰ (least pt (elim b [ true ↦ i | false ↦ n ]) is) (n ∷ i ∷ is)
+      go true h rec = let r =
+          rec i in (lex-trans _ (pt i) (pt n) (r .0) (lower-true (pt i) (pt n) _ _ refl refl h), all' _ (r .0) (r .1), in-i (r .2))
+      go false h rec = let r =
+          rec n in (r .0, all' _ (lex-trans _ (pt n) (pt i) (r .0) (lower-false (pt i) (pt n) _ _ refl refl h)) (r .1), in-n (r .2))
 
 -- the start is extreme
 pub ext-of-least : (P : List Pt) (s : Pt) → ((p : Pt) → Mem p P → LexLe s p) → Ext P s
@@ -160,7 +175,9 @@ module _ (P : List Pt) (some : 0 < length P) where
 
   pub start-least : (p : Pt) → Mem p P → LexLe s p
   unfolding startOf
-  start-least p m = let r = index-of P p m in subst (λ t. LexLe s t) (r .2) (least-ok (ptAt P) 0 (range 0 (length P)) .1 (r .0) (Memᴰ·cast (omega arith) (range-has 0 (length P) (r .0) (r .1))))
+  start-least p m = let r =
+      index-of P p m in subst (λ t. LexLe s t) (r .2)
+      (least-ok (ptAt P) 0 (range 0 (length P)) .1 (r .0) (Memᴰ·cast (omega arith) (range-has 0 (length P) (r .0) (r .1))))
 
   pub start-mem : Mem s P
   start-mem = mem-at P (startOf P) start<
@@ -173,7 +190,9 @@ module _ (P : List Pt) (some : 0 < length P) where
   next-ok c mc x = (
     mem-at P r r<,
     λ p m. let q = index-of P p m in
-        subst (λ t. Side (ptAt P c) (ptAt P r) t) (q .2) (side-of (x .0) (ptAt P c) (ptAt P r) (ptAt P (q .0)) (sel .at) (x .1 _ (mem-at P (q .0) (q .1))) (sel .all (q .0) (Memᴰ·cast (omega arith) (range-has 0 (length P) (q .0) (q .1))))),
+        subst (λ t. Side (ptAt P c) (ptAt P r) t) (q .2)
+        (side-of (x .0) (ptAt P c) (ptAt P r) (ptAt P (q .0)) (sel .at) (x .1 _ (mem-at P (q .0) (q .1)))
+        (sel .all (q .0) (Memᴰ·cast (omega arith) (range-has 0 (length P) (q .0) (q .1))))),
   )
     where
       i0 : ℕ

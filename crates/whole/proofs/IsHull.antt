@@ -81,9 +81,13 @@ need vs d c xs v ys e i = go xs ys (subst NoDup e d) (subst Clockwise e c) i
     go : (xs ys : List Pt) → NoDup (xs ++ v ∷ ys) → Clockwise (xs ++ v ∷ ys) → Inside v (xs ++ ys) → ⊥
     go [] [] d c i = i
     go [] (b ∷ []) d c i = d .0 (List·Memᴰ·head (same-pt b v i))
-    go [] (b ∷ b' ∷ bs) d c i = wrong (lastOf b' bs) v b (pp≡ (c .0 .0 (lastOf b' bs) (last-mem b' bs)) (sym (cyc (lastOf b' bs) v b))) (along-end v b (b' ∷ bs) b i)
+    go [] (b ∷ b' ∷ bs) d c i =
+        wrong (lastOf b' bs) v b (pp≡ (c .0 .0 (lastOf b' bs) (last-mem b' bs)) (sym (cyc (lastOf b' bs) v b)))
+        (along-end v b (b' ∷ bs) b i)
     go (a ∷ []) [] d c i = d .0 (List·Memᴰ·head (sym (same-pt a v i)))
-    go (a ∷ a' ∷ xs) [] d c i = wrong (lastOf a' xs) v a (pp≡ (fan-at a (a' ∷ xs) (lastOf a' xs) v (c .0) (last-mem a' xs)) (cyc a (lastOf a' xs) v)) (along-end v a (a' ∷ xs) a i')
+    go (a ∷ a' ∷ xs) [] d c i =
+        wrong (lastOf a' xs) v a (pp≡ (fan-at a (a' ∷ xs) (lastOf a' xs) v (c .0) (last-mem a' xs)) (cyc a (lastOf a' xs) v))
+        (along-end v a (a' ∷ xs) a i')
       where
         i' : Along v a (a' ∷ xs) a
         i' = subst (λ l. Along v a l a) (append-nil (a' ∷ xs)) i

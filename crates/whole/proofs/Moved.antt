@@ -32,8 +32,10 @@ pub record Flips (m : Pt → Pt) : Type 0 where
 pub keeps-quarter : (h : ℤ) → Keeps (quarter h)
 unfolding quarter cross dot
 keeps-quarter h = record {
-  turn = λ a b c. solve (a .x ∷ a .y ∷ b .x ∷ b .y ∷ c .x ∷ c .y ∷ h ∷ []) (((H :- Y 1) :- (H :- Y 0)) :* (X 2 :- X 0) :- (X 1 :- X 0) :* ((H :- Y 2) :- (H :- Y 0))) (C 0 1 2) refl;
-  far = λ a b c. solve (a .x ∷ a .y ∷ b .x ∷ b .y ∷ c .x ∷ c .y ∷ h ∷ []) (((H :- Y 1) :- (H :- Y 0)) :* ((H :- Y 2) :- (H :- Y 0)) :+ (X 1 :- X 0) :* (X 2 :- X 0)) (D 0 1 2) refl;
+  turn = λ a b c. solve (a .x ∷ a .y ∷ b .x ∷ b .y ∷ c .x ∷ c .y ∷ h ∷ [])
+      (((H :- Y 1) :- (H :- Y 0)) :* (X 2 :- X 0) :- (X 1 :- X 0) :* ((H :- Y 2) :- (H :- Y 0))) (C 0 1 2) refl;
+  far = λ a b c. solve (a .x ∷ a .y ∷ b .x ∷ b .y ∷ c .x ∷ c .y ∷ h ∷ [])
+      (((H :- Y 1) :- (H :- Y 0)) :* ((H :- Y 2) :- (H :- Y 0)) :+ (X 1 :- X 0) :* (X 2 :- X 0)) (D 0 1 2) refl;
 }
   where
     H : Expr
@@ -42,8 +44,10 @@ keeps-quarter h = record {
 pub flips-mirror : (w : ℤ) → Flips (mirror w)
 unfolding mirror cross dot
 flips-mirror h = record {
-  turn = λ a b c. solve (a .x ∷ a .y ∷ b .x ∷ b .y ∷ c .x ∷ c .y ∷ h ∷ []) (((H :- X 1) :- (H :- X 0)) :* (Y 2 :- Y 0) :- (Y 1 :- Y 0) :* ((H :- X 2) :- (H :- X 0))) (:n (C 0 1 2)) refl;
-  far = λ a b c. solve (a .x ∷ a .y ∷ b .x ∷ b .y ∷ c .x ∷ c .y ∷ h ∷ []) (((H :- X 1) :- (H :- X 0)) :* ((H :- X 2) :- (H :- X 0)) :+ (Y 1 :- Y 0) :* (Y 2 :- Y 0)) (D 0 1 2) refl;
+  turn = λ a b c. solve (a .x ∷ a .y ∷ b .x ∷ b .y ∷ c .x ∷ c .y ∷ h ∷ [])
+      (((H :- X 1) :- (H :- X 0)) :* (Y 2 :- Y 0) :- (Y 1 :- Y 0) :* ((H :- X 2) :- (H :- X 0))) (:n (C 0 1 2)) refl;
+  far = λ a b c. solve (a .x ∷ a .y ∷ b .x ∷ b .y ∷ c .x ∷ c .y ∷ h ∷ [])
+      (((H :- X 1) :- (H :- X 0)) :* ((H :- X 2) :- (H :- X 0)) :+ (Y 1 :- Y 0) :* (Y 2 :- Y 0)) (D 0 1 2) refl;
 }
   where
     H : Expr
@@ -53,10 +57,12 @@ pub keeps-id : Keeps (λ p. p)
 keeps-id = record { turn = λ a b c. refl; far = λ a b c. refl }
 
 pub keeps-keeps : {m n : Pt → Pt} → Keeps m → Keeps n → Keeps (λ p. m (n p))
-keeps-keeps {m} {n} k l = record { turn = λ a b c. k .turn (n a) (n b) (n c) ∙ l .turn a b c; far = λ a b c. k .far (n a) (n b) (n c) ∙ l .far a b c }
+keeps-keeps {m} {n} k l =
+    record { turn = λ a b c. k .turn (n a) (n b) (n c) ∙ l .turn a b c; far = λ a b c. k .far (n a) (n b) (n c) ∙ l .far a b c }
 
 pub keeps-flips : {m n : Pt → Pt} → Keeps m → Flips n → Flips (λ p. m (n p))
-keeps-flips {m} {n} k l = record { turn = λ a b c. k .turn (n a) (n b) (n c) ∙ l .turn a b c; far = λ a b c. k .far (n a) (n b) (n c) ∙ l .far a b c }
+keeps-flips {m} {n} k l =
+    record { turn = λ a b c. k .turn (n a) (n b) (n c) ∙ l .turn a b c; far = λ a b c. k .far (n a) (n b) (n c) ∙ l .far a b c }
 
 pub keeps-turns : (t : ℕ) (w h : ℤ) → Keeps (turns t w h)
 keeps-turns zero w h = keeps-id
@@ -79,8 +85,10 @@ module _ (m : Pt → Pt) (K : Keeps m) (P Q : List Pt) (same : Same (map m P) Q)
   unfolding Edge Side
   edge-keeps a b h p t =
       let r = of-map m P (same p .1 t) in
-      subst (λ q. Side (m a) (m b) q) (sym (r .2))
-      (nn≡ (h (r .0) (r .1) .0) (sym (K .turn a b (r .0))), λ z. nn≡ (h (r .0) (r .1) .1 (sym (K .turn a b (r .0)) ∙ z)) (ap neg (sym (K .far (r .0) a b))))
+      subst (λ q. Side (m a) (m b) q) (sym (r .2)) (
+        nn≡ (h (r .0) (r .1) .0) (sym (K .turn a b (r .0))),
+        λ z. nn≡ (h (r .0) (r .1) .1 (sym (K .turn a b (r .0)) ∙ z)) (ap neg (sym (K .far (r .0) a b))),
+      )
 
   run-keeps : (a : Pt) (vs : List Pt) (z : Pt) → Run P a vs z → Run Q (m a) (map m vs) (m z)
   run-keeps a [] z r = edge-keeps a z r
@@ -106,7 +114,9 @@ module _ (m : Pt → Pt) (K : Flips m) (P Q : List Pt) (same : Same (map m P) Q)
   -- backwards, from the last to the first
   run-flips : (a : Pt) (vs : List Pt) (z : Pt) → Run P a vs z → Run Q (m z) (reverse (map m vs)) (m a)
   run-flips a [] z r = edge-flips a z r
-  run-flips a (b ∷ bs) z r = rw reverse-cons (snoc Q (m z) (m b) (m a) (reverse (map m bs)) (run-flips b bs z (r .2)) (same (m b) .0 (mem-map m (r .0))) (edge-flips a b (r .1)))
+  run-flips a (b ∷ bs) z r =
+      rw reverse-cons (snoc Q (m z) (m b) (m a) (reverse (map m bs)) (run-flips b bs z (r .2)) (same (m b) .0 (mem-map m (r .0)))
+      (edge-flips a b (r .1)))
 
 -- ---- the hull of the moved points
 run-ext : (P : List Pt) (a : Pt) (vs : List Pt) (z : Pt) → Run P a vs z → Ext P z
@@ -115,7 +125,11 @@ run-ext P a (b ∷ bs) z r = run-ext P b bs z (r .2)
 
 pub closed-nodup : (P : List Pt) (a : Pt) (vs : List Pt) → Mem a P → Run P a vs a → (¬ Mem a vs) → NoDup (a ∷ vs)
 closed-nodup P a [] ma r n = (n, tt)
-closed-nodup P a (b ∷ bs) ma r n = (n, fan-nodup a (b ∷ bs) (run-fan P a ma (run-ext P b bs a (r .2)) b bs a (r .2) (r .0) (λ q. n (List·Memᴰ·head q)) (λ t. n (List·Memᴰ·tail t))))
+closed-nodup P a (b ∷ bs) ma r n = (
+  n,
+  fan-nodup a (b ∷ bs)
+      (run-fan P a ma (run-ext P b bs a (r .2)) b bs a (r .2) (r .0) (λ q. n (List·Memᴰ·head q)) (λ t. n (List·Memᴰ·tail t))),
+)
 
 pub inj : (m : Pt → Pt) → ((a b c : Pt) → dot (m a) (m b) (m c) ≡ dot a b c) → (a b : Pt) → m a ≡ m b → a ≡ b
 inj m far a b e = d2-0 a b (d2-dot a b ∙ sym (far a b b) ∙ sym (d2-dot (m a) (m b)) ∙ ap (d2 (m a)) (sym e) ∙ d2-self (m a))
@@ -152,7 +166,9 @@ pub hull-of-closed : (Q : List Pt) (a : Pt) (ws : List Pt) → Mem a Q → Run Q
 hull-of-closed Q a ws ma r n =
     let some : 0 < length Q = len-mem Q a ma in
     let h = hull-run Q some in
-    subst (λ l. Rot (a ∷ ws) l) (sym (h .1)) (closed-unique Q (ptAt Q (startOf Q)) a (h .0) ws (start-mem Q some) (start-ext Q some) (h .2) (h .3) ma r (closed-nodup Q a ws ma r n))
+    subst (λ l. Rot (a ∷ ws) l) (sym (h .1))
+    (closed-unique Q (ptAt Q (startOf Q)) a (h .0) ws (start-mem Q some) (start-ext Q some) (h .2) (h .3) ma r
+    (closed-nodup Q a ws ma r n))
 
 rot-nil : Rot [] []
 rot-nil = ([], [], refl, refl)
@@ -164,12 +180,14 @@ hull-turned m K (p ∷ P) Q same =
     let h = hull-run (p ∷ P) some in
     let s : Pt = ptAt (p ∷ P) (startOf (p ∷ P)) in
     subst (λ l. Rot (map m l) (hull Q)) (sym (h .1))
-    (hull-of-closed Q (m s) (map m (h .0)) (same (m s) .0 (mem-map m (start-mem (p ∷ P) some))) (run-keeps m K (p ∷ P) Q same s (h .0) s (h .2)) (not-map m (inj m (K .far)) s (h .0) (h .3)))
+    (hull-of-closed Q (m s) (map m (h .0)) (same (m s) .0 (mem-map m (start-mem (p ∷ P) some)))
+    (run-keeps m K (p ∷ P) Q same s (h .0) s (h .2)) (not-map m (inj m (K .far)) s (h .0) (h .3)))
 
 -- a closed run from its second vertex on
 shift : (Q : List Pt) (a : Pt) (ws : List Pt) → Mem a Q → Run Q a ws a → (¬ Mem a ws) → Rot (ws ++ a ∷ []) (hull Q)
 shift Q a [] ma r n = hull-of-closed Q a [] ma r n
-shift Q a (c ∷ cs) ma r n = hull-of-closed Q c (cs ++ a ∷ []) (r .0) (snoc Q c a c cs (r .2) ma (r .1)) (λ t. go (List·Memᴰ·append-cases cs t))
+shift Q a (c ∷ cs) ma r n =
+    hull-of-closed Q c (cs ++ a ∷ []) (r .0) (snoc Q c a c cs (r .2) ma (r .1)) (λ t. go (List·Memᴰ·append-cases cs t))
   where
     d : NoDup (a ∷ c ∷ cs)
     d = closed-nodup Q a (c ∷ cs) ma r n
@@ -187,7 +205,8 @@ hull-mirrored m K (p ∷ P) Q same =
     let s : Pt = ptAt (p ∷ P) (startOf (p ∷ P)) in
     subst (λ l. Rot (reverse (map m l)) (hull Q)) (sym (h .1))
     (rw (reverse-cons (m s) (map m (h .0)))
-    (shift Q (m s) (reverse (map m (h .0))) (same (m s) .0 (mem-map m (start-mem (p ∷ P) some))) (run-flips m K (p ∷ P) Q same s (h .0) s (h .2)) (λ t. not-map m (inj m (K .far)) s (h .0) (h .3) (mem-rev (map m (h .0)) t))))
+    (shift Q (m s) (reverse (map m (h .0))) (same (m s) .0 (mem-map m (start-mem (p ∷ P) some)))
+    (run-flips m K (p ∷ P) Q same s (h .0) s (h .2)) (λ t. not-map m (inj m (K .far)) s (h .0) (h .3) (mem-rev (map m (h .0)) t))))
 
 pub hull-moved : (b : Bool) (t : ℕ) (w h : ℤ) (P Q : List Pt) → Same (map (move b t w h) P) Q → Rot (movedList b t w h (hull P)) (hull Q)
 hull-moved false t w h P Q same = hull-turned (turns t w h) (keeps-turns t w h) P Q same

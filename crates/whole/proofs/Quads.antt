@@ -2,7 +2,19 @@
 use mathlib.Core.Path.{_≡_, refl, sym, _∙_, ap, subst}
 use mathlib.Core.Logic.{_⊎_, inl, inr, _≢_}
 use mathlib.Core.Bool.{Bool, true, false, _&&_}
-use mathlib.Core.List.{List, [], _∷_, map, reverse, List·Memᴰ, List·Memᴰ·head, List·Memᴰ·tail, Memᴰ·append-left, Memᴰ·append-right, List·Memᴰ·append-cases}
+use mathlib.Core.List.{
+  List,
+  [],
+  _∷_,
+  map,
+  reverse,
+  List·Memᴰ,
+  List·Memᴰ·head,
+  List·Memᴰ·tail,
+  Memᴰ·append-left,
+  Memᴰ·append-right,
+  List·Memᴰ·append-cases,
+}
 use Prim.Native.Nat.{ℕ}
 use lib.Dec.{T, ltb}
 use lib.ListN.{length}
@@ -45,19 +57,23 @@ module _ {T : Type 0} (g : T → ℤ) where
   amax-ok t u [] = record { from = inl refl; least = nn≡ z0 (sym (⊕-neg u)); most = λ x m. elim m [ ] }
   amax-ok t u (x ∷ xs) = go (isNeg (u ⊕ neg (g x))) refl (λ t u. amax-ok t u xs)
     where
-      all : (r : T × ℤ) → NN (r .1 ⊕ neg (g x)) → ((y : T) → List·Memᴰ y xs → NN (r .1 ⊕ neg (g y))) → (y : T) → List·Memᴰ y (x ∷ xs) → NN (r .1 ⊕ neg (g y))
+      all : (r : T × ℤ) → NN (r .1 ⊕ neg (g x)) → ((y : T) → List·Memᴰ y xs → NN (r .1 ⊕ neg (g y))) → (y : T) → List·Memᴰ y (x ∷ xs)
+          → NN (r .1 ⊕ neg (g y))
       all r h k y (List·Memᴰ·head e) = subst (λ q. NN (r .1 ⊕ neg (g q))) (sym e) h
       all r h k y (List·Memᴰ·tail m) = k y m
 
-      fromx : (r : T × ℤ) → (r ≡ (x, g x)) ⊎ (List·Memᴰ (r .0) xs × (r .1 ≡ g (r .0))) → (r ≡ (t, u)) ⊎ (List·Memᴰ (r .0) (x ∷ xs) × (r .1 ≡ g (r .0)))
+      fromx : (r : T × ℤ) → (r ≡ (x, g x)) ⊎ (List·Memᴰ (r .0) xs × (r .1 ≡ g (r .0)))
+          → (r ≡ (t, u)) ⊎ (List·Memᴰ (r .0) (x ∷ xs) × (r .1 ≡ g (r .0)))
       fromx r (inl e) = inr (List·Memᴰ·head (ap (λ q. q .0) e), ap (λ q. q .1) e ∙ ap g (sym (ap (λ q. q .0) e)))
       fromx r (inr q) = inr (List·Memᴰ·tail (q .0), q .1)
 
-      fromt : (r : T × ℤ) → (r ≡ (t, u)) ⊎ (List·Memᴰ (r .0) xs × (r .1 ≡ g (r .0))) → (r ≡ (t, u)) ⊎ (List·Memᴰ (r .0) (x ∷ xs) × (r .1 ≡ g (r .0)))
+      fromt : (r : T × ℤ) → (r ≡ (t, u)) ⊎ (List·Memᴰ (r .0) xs × (r .1 ≡ g (r .0)))
+          → (r ≡ (t, u)) ⊎ (List·Memᴰ (r .0) (x ∷ xs) × (r .1 ≡ g (r .0)))
       fromt r (inl e) = inl e
       fromt r (inr q) = inr (List·Memᴰ·tail (q .0), q .1)
 
-      go : (b : Bool) → isNeg (u ⊕ neg (g x)) ≡ b → ((t : T) (u : ℤ) → Best t u xs (amax g t u xs)) → Best t u (x ∷ xs) (elim b [ true ↦ amax g x (g x) xs | false ↦ amax g t u xs ])
+      go : (b : Bool) → isNeg (u ⊕ neg (g x)) ≡ b → ((t : T) (u : ℤ) → Best t u xs (amax g t u xs))
+          → Best t u (x ∷ xs) (elim b [ true ↦ amax g x (g x) xs | false ↦ amax g t u xs ])
       go true h rec = let r = rec x (g x) in record {
         from = fromx (amax g x (g x) xs) (r .from);
         least = nn≡ (nn+ (r .least) (nn≡ (pn (neg-true _ h)) (rneg u (g x)))) (ring3 (amax g x (g x) xs .1) (g x) u);
@@ -88,9 +104,16 @@ module _ (a b : Pt) (H : List Pt) (g : Pt → ℤ) (is : (p : Pt) → g p ≡ cr
   unfolding Top
   top-of r h k = go (k .from)
     where
-      go : (r ≡ (t, 𝟘)) ⊎ (Mem (r .0) H × (r .1 ≡ g (r .0))) → Mem (r .0) H × (PP (cross a b (r .0)) × ((w : Pt) → Mem w H → NN (cross a b (r .0) ⊕ neg (cross a b w))))
+      go : (r ≡ (t, 𝟘)) ⊎ (Mem (r .0) H × (r .1 ≡ g (r .0)))
+          → Mem (r .0) H × (PP (cross a b (r .0)) × ((w : Pt) → Mem w H → NN (cross a b (r .0) ⊕ neg (cross a b w))))
       go (inl e) = absurd (p0 h (ap (λ q. q .1) e))
-      go (inr q) = (q .0, (pp≡ h (q .1 ∙ is (r .0)), λ w m. nn≡ (k .most w m) (ap (λ z. z ⊕ neg (g w)) (q .1 ∙ is (r .0)) ∙ ap (λ z. cross a b (r .0) ⊕ neg z) (is w))))
+      go (inr q) = (
+        q .0,
+        (
+          pp≡ h (q .1 ∙ is (r .0)),
+          λ w m. nn≡ (k .most w m) (ap (λ z. z ⊕ neg (g w)) (q .1 ∙ is (r .0)) ∙ ap (λ z. cross a b (r .0) ⊕ neg z) (is w)),
+        ),
+      )
 
   bare-of : (r : Pt × ℤ) → NN (neg (r .1)) → Best g t 𝟘 H r → (w : Pt) → Mem w H → NN (neg (cross a b w))
   bare-of r h k w m = nn≡ (nn+ h (k .most w m)) (drop (r .1) (g w) ∙ ap neg (is w))
@@ -127,7 +150,9 @@ corners-ok a b H = go (isNeg (neg (c .1))) (isNeg (neg (d .1))) (isNeg (area a (
     neg-area : (c d : Pt) → PP (cross a b c) → PP (cross b a d) → PP (neg (area a c b d))
     neg-area c d h k = pp≡ (pn+ h (pn k)) (ap (λ z. cross a b c ⊕ z) (rot2 a b d) ∙ sym (neg-neg _) ∙ ap neg (sym (area-is a c b d)))
 
-    go : (p q w : Bool) → isNeg (neg (c .1)) ≡ p → isNeg (neg (d .1)) ≡ q → isNeg (area a (c .0) b (d .0)) ≡ w → Corners a b H (elim (p && q) [ false ↦ [] | true ↦ elim w [ false ↦ a ∷ c .0 ∷ b ∷ d .0 ∷ [] | true ↦ a ∷ d .0 ∷ b ∷ c .0 ∷ [] ] ])
+    go : (p q w : Bool) → isNeg (neg (c .1)) ≡ p → isNeg (neg (d .1)) ≡ q → isNeg (area a (c .0) b (d .0)) ≡ w
+        → Corners a b H (elim
+        (p && q) [ false ↦ [] | true ↦ elim w [ false ↦ a ∷ c .0 ∷ b ∷ d .0 ∷ [] | true ↦ a ∷ d .0 ∷ b ∷ c .0 ∷ [] ] ])
     go false q w ep eq ew = nope refl (inl (bare-of a b H (cross a b) (λ p. refl) a c (neg-false _ ep) rc))
     go true false w ep eq ew = nope refl (inr (bare-of b a H (λ p. neg (cross a b p)) sd a d (neg-false _ eq) rd))
     go true true w ep eq ew =
@@ -135,7 +160,8 @@ corners-ok a b H = go (isNeg (neg (c .1))) (isNeg (neg (d .1))) (isNeg (area a (
         let td = top-of b a H (λ p. neg (cross a b p)) sd a d (pp≡ (neg-true _ eq) (neg-neg (d .1))) rd in
         fin w ew tc td
       where
-        fin : (w : Bool) → isNeg (area a (c .0) b (d .0)) ≡ w → Mem (c .0) H × Top a b H (c .0) → Mem (d .0) H × Top b a H (d .0) → Corners a b H (elim w [ false ↦ a ∷ c .0 ∷ b ∷ d .0 ∷ [] | true ↦ a ∷ d .0 ∷ b ∷ c .0 ∷ [] ])
+        fin : (w : Bool) → isNeg (area a (c .0) b (d .0)) ≡ w → Mem (c .0) H × Top a b H (c .0) → Mem (d .0) H × Top b a H (d .0)
+            → Corners a b H (elim w [ false ↦ a ∷ c .0 ∷ b ∷ d .0 ∷ [] | true ↦ a ∷ d .0 ∷ b ∷ c .0 ∷ [] ])
         fin true ew tc td = yep (c .0) (d .0) refl (tc .0) (td .0) (tc .1) (td .1)
         fin false ew tc td = absurd (mathlib.Core.Bool.false≢true (sym ew ∙ is-neg _ (neg-area (c .0) (d .0) (tc .1 .0) (td .1 .0))))
 
@@ -149,7 +175,8 @@ pair-mem (a ∷ l) q m = go (List·Memᴰ·append-cases (map (λ b. (a, b)) l) m
     inl' (b ∷ l) (List·Memᴰ·head e) = (ap (λ p. p .0) e, List·Memᴰ·head (ap (λ p. p .1) e))
     inl' (b ∷ l) (List·Memᴰ·tail t) = let r = inl' l t in (r .0, List·Memᴰ·tail (r .1))
 
-    go : List·Memᴰ q (map (λ b. (a, b)) l) ⊎ List·Memᴰ q (pairs l) → (List·Memᴰ q (pairs l) → Mem (q .0) l × Mem (q .1) l) → Mem (q .0) (a ∷ l) × Mem (q .1) (a ∷ l)
+    go : List·Memᴰ q (map (λ b. (a, b)) l) ⊎ List·Memᴰ q (pairs l) → (List·Memᴰ q (pairs l) → Mem (q .0) l × Mem (q .1) l)
+        → Mem (q .0) (a ∷ l) × Mem (q .1) (a ∷ l)
     go (inl t) rec = let r = inl' l t in (List·Memᴰ·head (r .0), List·Memᴰ·tail (r .1))
     go (inr t) rec = let r = rec t in (List·Memᴰ·tail (r .0), List·Memᴰ·tail (r .1))
 
@@ -157,14 +184,18 @@ map-mem : (a : Pt) (l : List Pt) (b : Pt) → Mem b l → List·Memᴰ {A = Pt �
 map-mem a l b (List·Memᴰ·head e) = List·Memᴰ·head (ap (λ t. (a, t)) e)
 map-mem a l b (List·Memᴰ·tail {xs = xs} t) = List·Memᴰ·tail (map-mem a xs b t)
 
-pair-has : (H : List Pt) (u w : Pt) → Mem u H → Mem w H → u ≢ w → List·Memᴰ {A = Pt × Pt} (u, w) (pairs H) ⊎ List·Memᴰ {A = Pt × Pt} (w, u) (pairs H)
+pair-has : (H : List Pt) (u w : Pt) → Mem u H → Mem w H → u ≢ w
+    → List·Memᴰ {A = Pt × Pt} (u, w) (pairs H) ⊎ List·Memᴰ {A = Pt × Pt} (w, u) (pairs H)
 pair-has [] u w mu mw n = elim mu [ ]
 pair-has (a ∷ l) u w (List·Memᴰ·head e) (List·Memᴰ·head e') n = absurd (n (e ∙ sym e'))
-pair-has (a ∷ l) u w (List·Memᴰ·head e) (List·Memᴰ·tail t) n = inl (Memᴰ·append-left (pairs l) (subst (λ q. List·Memᴰ {A = Pt × Pt} (q, w) (map (λ b. (a, b)) l)) (sym e) (map-mem a l w t)))
-pair-has (a ∷ l) u w (List·Memᴰ·tail t) (List·Memᴰ·head e) n = inr (Memᴰ·append-left (pairs l) (subst (λ q. List·Memᴰ {A = Pt × Pt} (q, u) (map (λ b. (a, b)) l)) (sym e) (map-mem a l u t)))
+pair-has (a ∷ l) u w (List·Memᴰ·head e) (List·Memᴰ·tail t) n =
+    inl (Memᴰ·append-left (pairs l) (subst (λ q. List·Memᴰ {A = Pt × Pt} (q, w) (map (λ b. (a, b)) l)) (sym e) (map-mem a l w t)))
+pair-has (a ∷ l) u w (List·Memᴰ·tail t) (List·Memᴰ·head e) n =
+    inr (Memᴰ·append-left (pairs l) (subst (λ q. List·Memᴰ {A = Pt × Pt} (q, u) (map (λ b. (a, b)) l)) (sym e) (map-mem a l u t)))
 pair-has (a ∷ l) u w (List·Memᴰ·tail s) (List·Memᴰ·tail t) n = go (pair-has l u w s t n)
   where
-    go : List·Memᴰ {A = Pt × Pt} (u, w) (pairs l) ⊎ List·Memᴰ {A = Pt × Pt} (w, u) (pairs l) → List·Memᴰ {A = Pt × Pt} (u, w) (pairs (a ∷ l)) ⊎ List·Memᴰ {A = Pt × Pt} (w, u) (pairs (a ∷ l))
+    go : List·Memᴰ {A = Pt × Pt} (u, w) (pairs l) ⊎ List·Memᴰ {A = Pt × Pt} (w, u) (pairs l)
+        → List·Memᴰ {A = Pt × Pt} (u, w) (pairs (a ∷ l)) ⊎ List·Memᴰ {A = Pt × Pt} (w, u) (pairs (a ∷ l))
     go (inl m) = inl (Memᴰ·append-right (map (λ b. (a, b)) l) m)
     go (inr m) = inr (Memᴰ·append-right (map (λ b. (a, b)) l) m)
 
@@ -188,12 +219,16 @@ far-found (h ∷ l) a b f = got (r .from) (pair-has (h ∷ l) a b (f .0) (f .1) 
     atleast (inl m) = r .most (a, b) m
     atleast (inr m) = nn≡ (r .most (b, a) m) (ap (λ z. q .1 ⊕ neg z) (d2-sym b a))
 
-    pick : q .1 ≡ d2 (q .0 .0) (q .0 .1) → NN (q .1 ⊕ neg (d2 a b)) → ((q .0 .0 ≡ a) × (q .0 .1 ≡ b)) ⊎ (((q .0 .0 ≡ b) × (q .0 .1 ≡ a)) ⊎ PP (d2 a b ⊕ neg (d2 (q .0 .0) (q .0 .1)))) → (q .0 ≡ (a, b)) ⊎ (q .0 ≡ (b, a))
+    pick : q .1 ≡ d2 (q .0 .0) (q .0 .1) → NN (q .1 ⊕ neg (d2 a b))
+        → ((q .0 .0 ≡ a) × (q .0 .1 ≡ b)) ⊎ (((q .0 .0 ≡ b) × (q .0 .1 ≡ a)) ⊎ PP (d2 a b ⊕ neg (d2 (q .0 .0) (q .0 .1))))
+        → (q .0 ≡ (a, b)) ⊎ (q .0 ≡ (b, a))
     pick e n (inl x) = inl (λ i. (x .0 i, x .1 i))
     pick e n (inr (inl x)) = inr (λ i. (x .0 i, x .1 i))
     pick e n (inr (inr p)) = absurd (p0 (pn+ p (nn≡ n (ap (λ z. z ⊕ neg (d2 a b)) e))) (ring3 _ _ _ ∙ ⊕-neg _))
 
-    got : (q ≡ ((h, h), neg 𝟙)) ⊎ (List·Memᴰ (q .0) (pairs (h ∷ l)) × (q .1 ≡ dist (q .0))) → List·Memᴰ {A = Pt × Pt} (a, b) (pairs (h ∷ l)) ⊎ List·Memᴰ {A = Pt × Pt} (b, a) (pairs (h ∷ l)) → (q .0 ≡ (a, b)) ⊎ (q .0 ≡ (b, a))
+    got : (q ≡ ((h, h), neg 𝟙)) ⊎ (List·Memᴰ (q .0) (pairs (h ∷ l)) × (q .1 ≡ dist (q .0)))
+        → List·Memᴰ {A = Pt × Pt} (a, b) (pairs (h ∷ l)) ⊎ List·Memᴰ {A = Pt × Pt} (b, a) (pairs (h ∷ l))
+        → (q .0 ≡ (a, b)) ⊎ (q .0 ≡ (b, a))
     got (inl e) m = absurd (minus (d2 a b) (d2N a b) (nn≡ (atleast m) (ap (λ z. z .1 ⊕ neg (d2 a b)) e)))
       where
         minus : (z : ℤ) → NN z → NN (neg 𝟙 ⊕ neg z) → ⊥
@@ -205,7 +240,8 @@ far-swap : (H : List Pt) (a b : Pt) → Far H a b → Far H b a
 unfolding Far
 far-swap H a b f = (f .1, f .0, (λ e. f .2 (sym e)), λ u w mu mw. go u w (f .3 u w mu mw))
   where
-    go : (u w : Pt) → ((u ≡ a) × (w ≡ b)) ⊎ (((u ≡ b) × (w ≡ a)) ⊎ PP (d2 a b ⊕ neg (d2 u w))) → ((u ≡ b) × (w ≡ a)) ⊎ (((u ≡ a) × (w ≡ b)) ⊎ PP (d2 b a ⊕ neg (d2 u w)))
+    go : (u w : Pt) → ((u ≡ a) × (w ≡ b)) ⊎ (((u ≡ b) × (w ≡ a)) ⊎ PP (d2 a b ⊕ neg (d2 u w)))
+        → ((u ≡ b) × (w ≡ a)) ⊎ (((u ≡ a) × (w ≡ b)) ⊎ PP (d2 b a ⊕ neg (d2 u w)))
     go u w (inl x) = inr (inl x)
     go u w (inr (inl x)) = inl x
     go u w (inr (inr p)) = inr (inr (pp≡ p (ap (λ z. z ⊕ neg (d2 u w)) (d2-sym a b))))
@@ -232,13 +268,19 @@ corners-unique a b H o o' l k (yep c d e mc md tc td) (yep c' d' e' mc' md' tc' 
 module _ (m : Pt → Pt) (H H' : List Pt) (same : Same (map m H) H') where
   top-pull : (a b c d : Pt) → ((w : Pt) → cross (m c) (m d) (m w) ≡ cross a b w) → (u : Pt) → Top (m c) (m d) H' (m u) → Top a b H u
   unfolding Top
-  top-pull a b c d f u h = (pp≡ (h .0) (f u), λ w mw. nn≡ (h .1 (m w) (same (m w) .0 (mem-map m mw))) (ap (λ z. z ⊕ neg (cross (m c) (m d) (m w))) (f u) ∙ ap (λ z. cross a b u ⊕ neg z) (f w)))
+  top-pull a b c d f u h = (
+    pp≡ (h .0) (f u),
+    λ w mw. nn≡ (h .1 (m w) (same (m w) .0 (mem-map m mw)))
+        (ap (λ z. z ⊕ neg (cross (m c) (m d) (m w))) (f u) ∙ ap (λ z. cross a b u ⊕ neg z) (f w)),
+  )
 
-  bare-pull : (a b c d : Pt) → ((w : Pt) → cross (m c) (m d) (m w) ≡ cross a b w) → ((w : Pt) → Mem w H' → NN (neg (cross (m c) (m d) w))) → (w : Pt) → Mem w H → NN (neg (cross a b w))
+  bare-pull : (a b c d : Pt) → ((w : Pt) → cross (m c) (m d) (m w) ≡ cross a b w) → ((w : Pt) → Mem w H' → NN (neg (cross (m c) (m d) w)))
+      → (w : Pt) → Mem w H → NN (neg (cross a b w))
   bare-pull a b c d f h w mw = nn≡ (h (m w) (same (m w) .0 (mem-map m mw))) (ap neg (f w))
 
   -- the corners of the moved list at (m c, m d), where its turns about them are those about a b
-  pull : (a b c d : Pt) → ((w : Pt) → cross (m c) (m d) (m w) ≡ cross a b w) → ((w : Pt) → cross (m d) (m c) (m w) ≡ cross b a w) → (l : List Pt) → Corners (m c) (m d) H' l
+  pull : (a b c d : Pt) → ((w : Pt) → cross (m c) (m d) (m w) ≡ cross a b w) → ((w : Pt) → cross (m d) (m c) (m w) ≡ cross b a w)
+      → (l : List Pt) → Corners (m c) (m d) H' l
       → ((l ≡ []) × Bare a b H) ⊎ ((p : Pt) × (q : Pt) × (l ≡ m c ∷ m q ∷ m d ∷ m p ∷ []) × (Mem p H × Mem q H × Top a b H p × Top b a H q))
   unfolding Bare
   pull a b c d f g l (nope e (inl h)) = inl (e, inl (bare-pull a b c d f h))
@@ -248,7 +290,17 @@ module _ (m : Pt → Pt) (H H' : List Pt) (same : Same (map m H) H') where
       let rq = of-map m H (same q .1 mq) in
       let ep : p ≡ m (rp .0) = rp .2 in
       let eq : q ≡ m (rq .0) = rq .2 in
-      inr (rp .0, rq .0, cc, (rp .1, rq .1, top-pull a b c d f (rp .0) (subst (Top (m c) (m d) H') ep tp), top-pull b a d c g (rq .0) (subst (Top (m d) (m c) H') eq tq)))
+      inr (
+        rp .0,
+        rq .0,
+        cc,
+        (
+          rp .1,
+          rq .1,
+          top-pull a b c d f (rp .0) (subst (Top (m c) (m d) H') ep tp),
+          top-pull b a d c g (rq .0) (subst (Top (m d) (m c) H') eq tq),
+        ),
+      )
 
   abbrev Out : (List Pt → List Pt) → Pt → Pt → List Pt → Type 0
   Out M a b l = (k : List Pt) × Rot (M k) l × Corners a b H k
@@ -260,9 +312,14 @@ module _ (m : Pt → Pt) (H H' : List Pt) (same : Same (map m H) H') where
     keeps-same : (l : List Pt) → Corners (m a) (m b) H' l → Out (map m) a b l
     keeps-same l h = go (pull a b a b (keep a b) (keep b a) l h)
       where
-        go : ((l ≡ []) × Bare a b H) ⊎ ((p : Pt) × (q : Pt) × (l ≡ m a ∷ m q ∷ m b ∷ m p ∷ []) × (Mem p H × Mem q H × Top a b H p × Top b a H q)) → Out (map m) a b l
+        go : ((l ≡ []) × Bare a b H)
+            ⊎ ((p : Pt) × (q : Pt) × (l ≡ m a ∷ m q ∷ m b ∷ m p ∷ []) × (Mem p H × Mem q H × Top a b H p × Top b a H q)) → Out (map m) a b l
         go (inl x) = ([], ([], [], refl, x .0), nope refl (x .1))
-        go (inr x) = (a ∷ x .1 ∷ b ∷ x .0 ∷ [], ([], m a ∷ m (x .1) ∷ m b ∷ m (x .0) ∷ [], refl, x .2), yep (x .0) (x .1) refl (x .3 .0) (x .3 .1) (x .3 .2) (x .3 .3))
+        go (inr x) = (
+          a ∷ x .1 ∷ b ∷ x .0 ∷ [],
+          ([], m a ∷ m (x .1) ∷ m b ∷ m (x .0) ∷ [], refl, x .2),
+          yep (x .0) (x .1) refl (x .3 .0) (x .3 .1) (x .3 .2) (x .3 .3),
+        )
 
     keeps-swap : (l : List Pt) → Corners (m b) (m a) H' l → Out (map m) a b l
     unfolding Bare
@@ -272,9 +329,14 @@ module _ (m : Pt → Pt) (H H' : List Pt) (same : Same (map m H) H') where
         sw (inl h) = inr h
         sw (inr h) = inl h
 
-        go : ((l ≡ []) × Bare b a H) ⊎ ((p : Pt) × (q : Pt) × (l ≡ m b ∷ m q ∷ m a ∷ m p ∷ []) × (Mem p H × Mem q H × Top b a H p × Top a b H q)) → Out (map m) a b l
+        go : ((l ≡ []) × Bare b a H)
+            ⊎ ((p : Pt) × (q : Pt) × (l ≡ m b ∷ m q ∷ m a ∷ m p ∷ []) × (Mem p H × Mem q H × Top b a H p × Top a b H q)) → Out (map m) a b l
         go (inl x) = ([], ([], [], refl, x .0), nope refl (sw (x .1)))
-        go (inr x) = (a ∷ x .0 ∷ b ∷ x .1 ∷ [], (m a ∷ m (x .0) ∷ [], m b ∷ m (x .1) ∷ [], refl, x .2), yep (x .1) (x .0) refl (x .3 .1) (x .3 .0) (x .3 .3) (x .3 .2))
+        go (inr x) = (
+          a ∷ x .0 ∷ b ∷ x .1 ∷ [],
+          (m a ∷ m (x .0) ∷ [], m b ∷ m (x .1) ∷ [], refl, x .2),
+          yep (x .1) (x .0) refl (x .3 .1) (x .3 .0) (x .3 .3) (x .3 .2),
+        )
 
   module _ (K : Flips m) (a b : Pt) where
     flip : (a b : Pt) (w : Pt) → cross (m a) (m b) (m w) ≡ cross b a w
@@ -288,16 +350,28 @@ module _ (m : Pt → Pt) (H H' : List Pt) (same : Same (map m H) H') where
         sw (inl h) = inr h
         sw (inr h) = inl h
 
-        go : ((l ≡ []) × Bare b a H) ⊎ ((p : Pt) × (q : Pt) × (l ≡ m a ∷ m q ∷ m b ∷ m p ∷ []) × (Mem p H × Mem q H × Top b a H p × Top a b H q)) → Out (λ k. reverse (map m k)) a b l
+        go : ((l ≡ []) × Bare b a H)
+            ⊎ ((p : Pt) × (q : Pt) × (l ≡ m a ∷ m q ∷ m b ∷ m p ∷ []) × (Mem p H × Mem q H × Top b a H p × Top a b H q))
+            → Out (λ k. reverse (map m k)) a b l
         go (inl x) = ([], ([], [], refl, x .0), nope refl (sw (x .1)))
-        go (inr x) = (a ∷ x .0 ∷ b ∷ x .1 ∷ [], (m (x .1) ∷ m b ∷ m (x .0) ∷ [], m a ∷ [], refl, x .2), yep (x .1) (x .0) refl (x .3 .1) (x .3 .0) (x .3 .3) (x .3 .2))
+        go (inr x) = (
+          a ∷ x .0 ∷ b ∷ x .1 ∷ [],
+          (m (x .1) ∷ m b ∷ m (x .0) ∷ [], m a ∷ [], refl, x .2),
+          yep (x .1) (x .0) refl (x .3 .1) (x .3 .0) (x .3 .3) (x .3 .2),
+        )
 
     flips-swap : (l : List Pt) → Corners (m b) (m a) H' l → Out (λ k. reverse (map m k)) a b l
     flips-swap l h = go (pull a b b a (flip b a) (flip a b) l h)
       where
-        go : ((l ≡ []) × Bare a b H) ⊎ ((p : Pt) × (q : Pt) × (l ≡ m b ∷ m q ∷ m a ∷ m p ∷ []) × (Mem p H × Mem q H × Top a b H p × Top b a H q)) → Out (λ k. reverse (map m k)) a b l
+        go : ((l ≡ []) × Bare a b H)
+            ⊎ ((p : Pt) × (q : Pt) × (l ≡ m b ∷ m q ∷ m a ∷ m p ∷ []) × (Mem p H × Mem q H × Top a b H p × Top b a H q))
+            → Out (λ k. reverse (map m k)) a b l
         go (inl x) = ([], ([], [], refl, x .0), nope refl (x .1))
-        go (inr x) = (a ∷ x .1 ∷ b ∷ x .0 ∷ [], (m (x .0) ∷ [], m b ∷ m (x .1) ∷ m a ∷ [], refl, x .2), yep (x .0) (x .1) refl (x .3 .0) (x .3 .1) (x .3 .2) (x .3 .3))
+        go (inr x) = (
+          a ∷ x .1 ∷ b ∷ x .0 ∷ [],
+          (m (x .0) ∷ [], m b ∷ m (x .1) ∷ m a ∷ [], refl, x .2),
+          yep (x .0) (x .1) refl (x .3 .0) (x .3 .1) (x .3 .2) (x .3 .3),
+        )
 
   far-moved : ((a b c : Pt) → dot (m a) (m b) (m c) ≡ dot a b c) → (a b : Pt) → Far H a b → Far H' (m a) (m b)
   unfolding Far
@@ -314,14 +388,19 @@ module _ (m : Pt → Pt) (H H' : List Pt) (same : Same (map m H) H') where
       dd : (a b : Pt) → d2 (m a) (m b) ≡ d2 a b
       dd a b = d2-dot (m a) (m b) ∙ far a b b ∙ sym (d2-dot a b)
 
-      go : (u w p q : Pt) → u ≡ m p → w ≡ m q → ((p ≡ a) × (q ≡ b)) ⊎ (((p ≡ b) × (q ≡ a)) ⊎ PP (d2 a b ⊕ neg (d2 p q))) → ((u ≡ m a) × (w ≡ m b)) ⊎ (((u ≡ m b) × (w ≡ m a)) ⊎ PP (d2 (m a) (m b) ⊕ neg (d2 u w)))
+      go : (u w p q : Pt) → u ≡ m p → w ≡ m q → ((p ≡ a) × (q ≡ b)) ⊎ (((p ≡ b) × (q ≡ a)) ⊎ PP (d2 a b ⊕ neg (d2 p q)))
+          → ((u ≡ m a) × (w ≡ m b)) ⊎ (((u ≡ m b) × (w ≡ m a)) ⊎ PP (d2 (m a) (m b) ⊕ neg (d2 u w)))
       go u w p q eu ew (inl x) = inl (eu ∙ ap m (x .0), ew ∙ ap m (x .1))
       go u w p q eu ew (inr (inl x)) = inr (inl (eu ∙ ap m (x .0), ew ∙ ap m (x .1)))
-      go u w p q eu ew (inr (inr h)) = inr (inr (pp≡ h (ap (λ z. z ⊕ neg (d2 p q)) (sym (dd a b)) ∙ ap (λ z. d2 (m a) (m b) ⊕ neg z) (sym (dd p q) ∙ ap (λ z. d2 z (m q)) (sym eu) ∙ ap (d2 u) (sym ew)))))
+      go u w p q eu ew (inr (inr h)) =
+          inr (inr (pp≡ h (ap (λ z. z ⊕ neg (d2 p q)) (sym (dd a b))
+          ∙ ap (λ z. d2 (m a) (m b) ⊕ neg z) (sym (dd p q) ∙ ap (λ z. d2 z (m q)) (sym eu) ∙ ap (d2 u) (sym ew)))))
 
   -- once the two lists find the pairs, the quads correspond
-  module _ (M : List Pt → List Pt) (a b : Pt) (straight : (l : List Pt) → Corners (m a) (m b) H' l → Out M a b l) (crossed : (l : List Pt) → Corners (m b) (m a) H' l → Out M a b l)
-      (M[] : M [] ≡ []) (len : length H ≡ length H') (fa : farthest H ≡ (a, b)) (f' : Far H' (m a) (m b)) (o : OneTop H a b) (o' : OneTop H b a) where
+  module _ (M : List Pt → List Pt) (a b : Pt) (straight : (l : List Pt) → Corners (m a) (m b) H' l → Out M a b l)
+      (crossed : (l : List Pt) → Corners (m b) (m a) H' l → Out M a b l)
+      (M[] : M [] ≡ []) (len : length H ≡ length H') (fa : farthest H ≡ (a, b)) (f' : Far H' (m a) (m b)) (o : OneTop H a b)
+      (o' : OneTop H b a) where
     quads : Rot (M (quad H)) (quad H')
     unfolding quad
     quads = go (ltb (length H) 4) (ltb (length H') 4) (ap (λ n. ltb n 4) len) (far-found H' (m a) (m b) f')
@@ -345,25 +424,32 @@ module _ (m : Pt → Pt) (H H' : List Pt) (same : Same (map m H) H') where
         both (inl e) = end (straight q' (subst (λ t. Corners (t .0) (t .1) H' q') e q'-ok))
         both (inr e) = end (crossed q' (subst (λ t. Corners (t .0) (t .1) H' q') e q'-ok))
 
-        go : (x y : Bool) → x ≡ y → (farthest H' ≡ (m a, m b)) ⊎ (farthest H' ≡ (m b, m a)) → Rot (M (elim x [ true ↦ [] | false ↦ q ])) (elim y [ true ↦ [] | false ↦ q' ])
+        go : (x y : Bool) → x ≡ y → (farthest H' ≡ (m a, m b)) ⊎ (farthest H' ≡ (m b, m a))
+            → Rot (M (elim x [ true ↦ [] | false ↦ q ])) (elim y [ true ↦ [] | false ↦ q' ])
         go true true e d = subst (λ l. Rot l []) (sym M[]) ([], [], refl, refl)
         go true false e d = absurd (mathlib.Core.Bool.true≢false e)
         go false true e d = absurd (mathlib.Core.Bool.false≢true e)
         go false false e d = both d
 
-pub quad-turned : (m : Pt → Pt) → Keeps m → (H H' : List Pt) → Same (map m H) H' → length H ≡ length H' → (a b : Pt) → Far H a b → OneTop H a b → OneTop H b a → Rot (map m (quad H)) (quad H')
+pub quad-turned : (m : Pt → Pt) → Keeps m → (H H' : List Pt) → Same (map m H) H' → length H ≡ length H' → (a b : Pt) → Far H a b
+    → OneTop H a b → OneTop H b a → Rot (map m (quad H)) (quad H')
 quad-turned m K H H' same len a b f o o' = go (far-found H a b f)
   where
     go : (farthest H ≡ (a, b)) ⊎ (farthest H ≡ (b, a)) → Rot (map m (quad H)) (quad H')
-    go (inl e) = quads m H H' same (map m) a b (keeps-same m H H' same K a b) (keeps-swap m H H' same K a b) refl len e (far-moved m H H' same (K .far) a b f) o o'
-    go (inr e) = quads m H H' same (map m) b a (keeps-same m H H' same K b a) (keeps-swap m H H' same K b a) refl len e (far-moved m H H' same (K .far) b a (far-swap H a b f)) o' o
+    go (inl e) = quads m H H' same (map m) a b (keeps-same m H H' same K a b) (keeps-swap m H H' same K a b) refl len e
+        (far-moved m H H' same (K .far) a b f) o o'
+    go (inr e) = quads m H H' same (map m) b a (keeps-same m H H' same K b a) (keeps-swap m H H' same K b a) refl len e
+        (far-moved m H H' same (K .far) b a (far-swap H a b f)) o' o
 
-pub quad-mirrored : (m : Pt → Pt) → Flips m → (H H' : List Pt) → Same (map m H) H' → length H ≡ length H' → (a b : Pt) → Far H a b → OneTop H a b → OneTop H b a → Rot (reverse (map m (quad H))) (quad H')
+pub quad-mirrored : (m : Pt → Pt) → Flips m → (H H' : List Pt) → Same (map m H) H' → length H ≡ length H' → (a b : Pt) → Far H a b
+    → OneTop H a b → OneTop H b a → Rot (reverse (map m (quad H))) (quad H')
 quad-mirrored m K H H' same len a b f o o' = go (far-found H a b f)
   where
     go : (farthest H ≡ (a, b)) ⊎ (farthest H ≡ (b, a)) → Rot (reverse (map m (quad H))) (quad H')
-    go (inl e) = quads m H H' same (λ k. reverse (map m k)) a b (flips-same m H H' same K a b) (flips-swap m H H' same K a b) refl len e (far-moved m H H' same (K .far) a b f) o o'
-    go (inr e) = quads m H H' same (λ k. reverse (map m k)) b a (flips-same m H H' same K b a) (flips-swap m H H' same K b a) refl len e (far-moved m H H' same (K .far) b a (far-swap H a b f)) o' o
+    go (inl e) = quads m H H' same (λ k. reverse (map m k)) a b (flips-same m H H' same K a b) (flips-swap m H H' same K a b) refl len e
+        (far-moved m H H' same (K .far) a b f) o o'
+    go (inr e) = quads m H H' same (λ k. reverse (map m k)) b a (flips-same m H H' same K b a) (flips-swap m H H' same K b a) refl len e
+        (far-moved m H H' same (K .far) b a (far-swap H a b f)) o' o
 
 -- ---- the corners, from what the two scans found
 module _ (a b : Pt) (H : List Pt) where
@@ -386,7 +472,8 @@ module _ (a b : Pt) (H : List Pt) where
   pub corners-yes : PP (sc .1) → PP (sd .1) → corners a b H ≡ a ∷ sd .0 ∷ b ∷ sc .0 ∷ []
   unfolding corners Top
   corners-yes hc hd =
-      ap (λ (t : Bool). elim (t && isNeg (neg (sd .1))) as (λ _. List Pt) [ false ↦ [] | true ↦ inner (isNeg (area a (sc .0) b (sd .0))) ]) (neg-of (sc .1) hc)
+      ap (λ (t : Bool). elim (t && isNeg (neg (sd .1))) as (λ _. List Pt) [ false ↦ [] | true ↦ inner (isNeg (area a (sc .0) b (sd .0))) ])
+      (neg-of (sc .1) hc)
       ∙ ap (λ (t : Bool). elim t as (λ _. List Pt) [ false ↦ [] | true ↦ inner (isNeg (area a (sc .0) b (sd .0))) ]) (neg-of (sd .1) hd)
       ∙ ap inner (is-neg _ neg-area)
     where
@@ -400,7 +487,8 @@ module _ (a b : Pt) (H : List Pt) where
       td = top-of b a H (λ p. neg (cross a b p)) (λ p. sym (rot2 a b p)) a sd hd (amax-ok (λ p. neg (cross a b p)) a 𝟘 H)
 
       neg-area : PP (neg (area a (sc .0) b (sd .0)))
-      neg-area = pp≡ (pn+ (tc .1 .0) (pn (td .1 .0))) (ap (λ z. cross a b (sc .0) ⊕ z) (rot2 a b (sd .0)) ∙ sym (neg-neg _) ∙ ap neg (sym (area-is a (sc .0) b (sd .0))))
+      neg-area = pp≡ (pn+ (tc .1 .0) (pn (td .1 .0)))
+          (ap (λ z. cross a b (sc .0) ⊕ z) (rot2 a b (sd .0)) ∙ sym (neg-neg _) ∙ ap neg (sym (area-is a (sc .0) b (sd .0))))
 
   abbrev in4 : List Pt
   in4 = elim (isNeg (area a (sc .0) b (sd .0))) [ false ↦ a ∷ sc .0 ∷ b ∷ sd .0 ∷ [] | true ↦ a ∷ sd .0 ∷ b ∷ sc .0 ∷ [] ]
@@ -411,7 +499,8 @@ module _ (a b : Pt) (H : List Pt) where
 
   pub corners-no-d : NN (neg (sd .1)) → corners a b H ≡ []
   unfolding corners
-  corners-no-d h = ap (λ (t : Bool). elim (isNeg (neg (sc .1)) && t) as (λ _. List Pt) [ false ↦ [] | true ↦ in4 ]) (not-neg _ h) ∙ both (isNeg (neg (sc .1)))
+  corners-no-d h = ap (λ (t : Bool). elim (isNeg (neg (sc .1)) && t) as (λ _. List Pt) [ false ↦ [] | true ↦ in4 ]) (not-neg _ h)
+      ∙ both (isNeg (neg (sc .1)))
     where
       both : (t : Bool) → _≡_ {A = List Pt} (elim (t && false) as (λ _. List Pt) [ false ↦ [] | true ↦ in4 ]) []
       both true = refl

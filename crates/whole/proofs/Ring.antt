@@ -6,7 +6,23 @@ use Prim.Native.Nat.{ℕ, zero, suc}
 use lib.Dec.{T, ltb, eqb, eqb→eq}
 use lib.IntN.{ℤ, pos, negsuc, negℤ, _+ℤ_, _*ℤ_}
 use Rattle.whole.specs.Numbers.{_⊕_, _⊗_, neg, 𝟘, 𝟙}
-use Rattle.whole.proofs.Sums.{⊕-assoc, ⊕-comm, ⊕-lcomm, 𝟘-⊕, ⊕-𝟘, ⊗-comm, 𝟘-⊗, ⊗-𝟘, 𝟙-⊗, ⊗-distr, ⊗-distl, ⊗-assoc, ⊗-lcomm, neg-⊕, neg-⊗}
+use Rattle.whole.proofs.Sums.{
+  ⊕-assoc,
+  ⊕-comm,
+  ⊕-lcomm,
+  𝟘-⊕,
+  ⊕-𝟘,
+  ⊗-comm,
+  𝟘-⊗,
+  ⊗-𝟘,
+  𝟙-⊗,
+  ⊗-distr,
+  ⊗-distl,
+  ⊗-assoc,
+  ⊗-lcomm,
+  neg-⊕,
+  neg-⊗,
+}
 
 infixl 6 _:+_
 infixl 6 _:-_
@@ -65,7 +81,8 @@ tm' (negsuc n) m p = tm (negsuc n) m p
 
 abbrev pub addT : ℤ → List ℕ → Poly → Poly
 addT c m nil = tm' c m nil
-addT c m (tm d l p) = elim (eqM m l) [ true ↦ tm' (d +ℤ c) l p | false ↦ elim (ltM m l) [ true ↦ tm' c m (tm d l p) | false ↦ tm d l (addT c m p) ] ]
+addT c m (tm d l p) =
+    elim (eqM m l) [ true ↦ tm' (d +ℤ c) l p | false ↦ elim (ltM m l) [ true ↦ tm' c m (tm d l p) | false ↦ tm d l (addT c m p) ] ]
 
 abbrev pub addP : Poly → Poly → Poly
 addP nil q = q
@@ -105,7 +122,8 @@ module _ (ρ : List ℤ) where
   insM-ok i [] = refl
   insM-ok i (j ∷ m) = go (ltb j i) (insM-ok i m)
     where
-      go : (b : Bool) → evM (insM i m) ≡ look ρ i ⊗ evM m → evM (elim b [ true ↦ j ∷ insM i m | false ↦ i ∷ j ∷ m ]) ≡ look ρ i ⊗ (look ρ j ⊗ evM m)
+      go : (b : Bool) → evM (insM i m) ≡ look ρ i ⊗ evM m
+          → evM (elim b [ true ↦ j ∷ insM i m | false ↦ i ∷ j ∷ m ]) ≡ look ρ i ⊗ (look ρ j ⊗ evM m)
       go true h = ap (λ x. look ρ j ⊗ x) h ∙ ⊗-lcomm (look ρ j) (look ρ i) (evM m)
       go false h = refl
 
@@ -126,7 +144,8 @@ eqM-ok : (a b : List ℕ) → T (eqM a b) → a ≡ b
 eqM-ok [] [] t = refl
 eqM-ok [] (j ∷ b) t = absurd t
 eqM-ok (i ∷ a) [] t = absurd t
-eqM-ok (i ∷ a) (j ∷ b) t = let p : i ≡ j = eqb→eq i j (and-l (eqb i j) (eqM a b) t) in let q : a ≡ b = eqM-ok a b (and-r (eqb i j) (eqM a b) t) in cc
+eqM-ok (i ∷ a) (j ∷ b) t = let p : i ≡ j = eqb→eq i j (and-l (eqb i j) (eqM a b) t) in let q : a ≡ b =
+    eqM-ok a b (and-r (eqb i j) (eqM a b) t) in cc
 
 module _ (ρ : List ℤ) where
   tm'-ok : (c : ℤ) (m : List ℕ) (p : Poly) → evP ρ (tm' c m p) ≡ c ⊗ evM ρ m ⊕ evP ρ p
@@ -144,8 +163,11 @@ module _ (ρ : List ℤ) where
   addT-ok c m nil = tm'-ok c m nil
   addT-ok c m (tm d l p) = go (eqM m l) (ltM m l) (eqM-ok m l) (addT-ok c m p)
     where
-      go : (b b' : Bool) → (T b → m ≡ l) → evP ρ (addT c m p) ≡ c ⊗ evM ρ m ⊕ evP ρ p → evP ρ (elim b [ true ↦ tm' (d +ℤ c) l p | false ↦ elim b' [ true ↦ tm' c m (tm d l p) | false ↦ tm d l (addT c m p) ] ]) ≡ c ⊗ evM ρ m ⊕ (d ⊗ evM ρ l ⊕ evP ρ p)
-      go true b' e h = tm'-ok (d +ℤ c) l p ∙ ap (λ x. x ⊕ evP ρ p) (plus c d (evM ρ l)) ∙ ⊕-assoc (c ⊗ evM ρ l) (d ⊗ evM ρ l) (evP ρ p) ∙ ap (λ y. c ⊗ evM ρ y ⊕ (d ⊗ evM ρ l ⊕ evP ρ p)) (sym (e tt))
+      go : (b b' : Bool) → (T b → m ≡ l) → evP ρ (addT c m p) ≡ c ⊗ evM ρ m ⊕ evP ρ p
+          → evP ρ (elim b [ true ↦ tm' (d +ℤ c) l p | false ↦ elim b' [ true ↦ tm' c m (tm d l p) | false ↦ tm d l (addT c m p) ] ])
+          ≡ c ⊗ evM ρ m ⊕ (d ⊗ evM ρ l ⊕ evP ρ p)
+      go true b' e h = tm'-ok (d +ℤ c) l p ∙ ap (λ x. x ⊕ evP ρ p) (plus c d (evM ρ l)) ∙ ⊕-assoc (c ⊗ evM ρ l) (d ⊗ evM ρ l) (evP ρ p)
+          ∙ ap (λ y. c ⊗ evM ρ y ⊕ (d ⊗ evM ρ l ⊕ evP ρ p)) (sym (e tt))
       go false true e h = tm'-ok c m (tm d l p)
       go false false e h = ap (λ x. d ⊗ evM ρ l ⊕ x) h ∙ ⊕-lcomm (d ⊗ evM ρ l) (c ⊗ evM ρ m) (evP ρ p)
 
@@ -161,12 +183,17 @@ module _ (ρ : List ℤ) where
   mulT-ok : (c : ℤ) (m : List ℕ) (p : Poly) → evP ρ (mulT c m p) ≡ (c ⊗ evM ρ m) ⊗ evP ρ p
   unfolding evP
   mulT-ok c m nil = sym (⊗-𝟘 (c ⊗ evM ρ m))
-  mulT-ok c m (tm d l p) = addT-ok (c *ℤ d) (mulM m l) (mulT c m p) ∙ ap (λ x. (c *ℤ d) ⊗ x ⊕ evP ρ (mulT c m p)) (mulM-ok ρ m l) ∙ ap (λ x. x ⊕ evP ρ (mulT c m p)) (times c d (evM ρ m) (evM ρ l)) ∙ ap (λ x. (c ⊗ evM ρ m) ⊗ (d ⊗ evM ρ l) ⊕ x) (mulT-ok c m p) ∙ sym (⊗-distl (c ⊗ evM ρ m) (d ⊗ evM ρ l) (evP ρ p))
+  mulT-ok c m (tm d l p) =
+      addT-ok (c *ℤ d) (mulM m l) (mulT c m p) ∙ ap (λ x. (c *ℤ d) ⊗ x ⊕ evP ρ (mulT c m p)) (mulM-ok ρ m l)
+      ∙ ap (λ x. x ⊕ evP ρ (mulT c m p)) (times c d (evM ρ m) (evM ρ l)) ∙ ap (λ x. (c ⊗ evM ρ m) ⊗ (d ⊗ evM ρ l) ⊕ x) (mulT-ok c m p)
+      ∙ sym (⊗-distl (c ⊗ evM ρ m) (d ⊗ evM ρ l) (evP ρ p))
 
   mulP-ok : (p q : Poly) → evP ρ (mulP p q) ≡ evP ρ p ⊗ evP ρ q
   unfolding evP
   mulP-ok nil q = sym (𝟘-⊗ (evP ρ q))
-  mulP-ok (tm c m p) q = addP-ok (mulT c m q) (mulP p q) ∙ ap (λ x. x ⊕ evP ρ (mulP p q)) (mulT-ok c m q) ∙ ap (λ x. (c ⊗ evM ρ m) ⊗ evP ρ q ⊕ x) (mulP-ok p q) ∙ sym (⊗-distr (c ⊗ evM ρ m) (evP ρ p) (evP ρ q))
+  mulP-ok (tm c m p) q =
+      addP-ok (mulT c m q) (mulP p q) ∙ ap (λ x. x ⊕ evP ρ (mulP p q)) (mulT-ok c m q)
+      ∙ ap (λ x. (c ⊗ evM ρ m) ⊗ evP ρ q ⊕ x) (mulP-ok p q) ∙ sym (⊗-distr (c ⊗ evM ρ m) (evP ρ p) (evP ρ q))
 
   nz : neg 𝟘 ≡ 𝟘
   unfolding neg 𝟘
@@ -179,7 +206,8 @@ module _ (ρ : List ℤ) where
   negP-ok : (p : Poly) → evP ρ (negP p) ≡ neg (evP ρ p)
   unfolding evP
   negP-ok nil = sym nz
-  negP-ok (tm c m p) = ap (λ x. x ⊕ evP ρ (negP p)) (ntm c (evM ρ m)) ∙ ap (λ x. neg (c ⊗ evM ρ m) ⊕ x) (negP-ok p) ∙ sym (neg-⊕ (c ⊗ evM ρ m) (evP ρ p))
+  negP-ok (tm c m p) =
+      ap (λ x. x ⊕ evP ρ (negP p)) (ntm c (evM ρ m)) ∙ ap (λ x. neg (c ⊗ evM ρ m) ⊕ x) (negP-ok p) ∙ sym (neg-⊕ (c ⊗ evM ρ m) (evP ρ p))
 
   var-ok : (x : ℤ) → pos 1 ⊗ (x ⊗ 𝟙) ⊕ 𝟘 ≡ x
   unfolding 𝟙

@@ -37,7 +37,8 @@ pub pigeon : (xs ys : List Pt) → NoDup xs → ((q : Pt) → Mem q xs → Mem q
 pigeon [] ys d h = omega arith
 pigeon (a ∷ xs) ys d h =
     let r = rem (h a (List·Memᴰ·head refl)) in
-    let ih : length xs ≤ length (r .0) = pigeon xs (r .0) (d .1) (λ q m. r .2 q (h q (List·Memᴰ·tail m)) (λ e. d .0 (mathlib.Core.List.Memᴰ·cast (sym e) m))) in
+    let ih : length xs ≤ length (r .0) =
+    pigeon xs (r .0) (d .1) (λ q m. r .2 q (h q (List·Memᴰ·tail m)) (λ e. d .0 (mathlib.Core.List.Memᴰ·cast (sym e) m))) in
     omega (arith, r .1)
 
 zero-true : (z : ℤ) → isZero z ≡ true → z ≡ 𝟘
@@ -66,12 +67,14 @@ pub same-false : (a b : Pt) → samePt a b ≡ false → a ≢ b
 same-false a b h e = mathlib.Core.Bool.true≢false (sym (same-refl a) ∙ ap (samePt a) e ∙ h)
 
 module _ {S : Type 0} (pt : S → Pt) (nx : S → S) where
-  module _ (P : List Pt) (ok : (c : S) → Mem (pt c) P → Ext P (pt c) → Mem (pt (nx c)) P × Edge P (pt c) (pt (nx c))) (s : Pt) (hs : Mem s P) (es : Ext P s) where
+  module _ (P : List Pt) (ok : (c : S) → Mem (pt c) P → Ext P (pt c) → Mem (pt (nx c)) P × Edge P (pt c) (pt (nx c))) (s : Pt)
+      (hs : Mem s P) (es : Ext P s) where
     -- the list from c on is one of edges back to s, and s is not in it again
     abbrev Back : ℕ → S → Type 0
     Back n c = (vs : List Pt) × (walk pt nx s n c ≡ pt c ∷ vs) × Run P (pt c) vs s × (¬ Mem s vs)
 
-    back : (n : ℕ) (c : S) (seen : List Pt) → NoDup seen → ((q : Pt) → Mem q seen → Mem q P) → Mem (pt c) P → Ext P (pt c) → ((q : Pt) → Mem q seen → (q ≡ s) ⊎ PP (cross s q (pt c))) → pt c ≢ s → length P ≤ length seen + n → Back n c
+    back : (n : ℕ) (c : S) (seen : List Pt) → NoDup seen → ((q : Pt) → Mem q seen → Mem q P) → Mem (pt c) P → Ext P (pt c)
+        → ((q : Pt) → Mem q seen → (q ≡ s) ⊎ PP (cross s q (pt c))) → pt c ≢ s → length P ≤ length seen + n → Back n c
     unfolding walk Edge Ext
     back zero c seen nd sub mc ec fn ne le = absurd (full (pigeon (pt c ∷ seen) P (fresh, nd) sub'))
       where
@@ -88,7 +91,8 @@ module _ {S : Type 0} (pt : S → Pt) (nx : S → S) where
 
         full : suc (length seen) ≤ length P → ⊥
         full h = omega arith
-    back (suc k) c seen nd sub mc ec fn ne le = go (samePt (pt (nx c)) s) refl (λ ne'. back k (nx c) (pt c ∷ seen) (fresh, nd) sub' mn en (fn' ne') ne' le')
+    back (suc k) c seen nd sub mc ec fn ne le =
+        go (samePt (pt (nx c)) s) refl (λ ne'. back k (nx c) (pt c ∷ seen) (fresh, nd) sub' mn en (fn' ne') ne' le')
       where
         r : Mem (pt (nx c)) P × Edge P (pt c) (pt (nx c))
         r = ok c mc ec
@@ -132,9 +136,12 @@ module _ {S : Type 0} (pt : S → Pt) (nx : S → S) where
             on (inr p) (yes e) = inl e
             on (inr p) (no qn) = inr (fan (es .0) s q (pt c) (pt (nx c)) (high q (sub q t) qn) (high _ mc ne) (high _ mn n) p (turn n))
 
-        go : (d : Bool) → samePt (pt (nx c)) s ≡ d → (pt (nx c) ≢ s → Back k (nx c)) → (vs : List Pt) × (_≡_ {A = List Pt} (pt c ∷ elim d [ true ↦ [] | false ↦ walk pt nx s k (nx c) ]) (pt c ∷ vs)) × Run P (pt c) vs s × (¬ Mem s vs)
+        go : (d : Bool) → samePt (pt (nx c)) s ≡ d → (pt (nx c) ≢ s → Back k (nx c))
+            → (vs : List Pt) × (_≡_ {A = List Pt} (pt c ∷ elim d [ true ↦ [] | false ↦ walk pt nx s k (nx c) ]) (pt c ∷ vs))
+            × Run P (pt c) vs s × (¬ Mem s vs)
         go true h rec = ([], refl, subst (λ t. Edge P (pt c) t) (same-true _ _ h) (r .1), λ m. elim m [ ])
-        go false h rec = let n = same-false _ _ h in let b = rec n in (pt (nx c) ∷ b .0, ap (λ l. pt c ∷ l) (b .1), (mn, r .1, b .2), λ m. off n (b .3) m)
+        go false h rec = let n = same-false _ _ h in let b =
+            rec n in (pt (nx c) ∷ b .0, ap (λ l. pt c ∷ l) (b .1), (mn, r .1, b .2), λ m. off n (b .3) m)
           where
             off : {vs : List Pt} → pt (nx c) ≢ s → (¬ Mem s vs) → Mem s (pt (nx c) ∷ vs) → ⊥
             off n h (List·Memᴰ·head e) = n (sym e)
@@ -169,7 +176,9 @@ module _ {S : Type 0} (pt : S → Pt) (nx : S → S) where
         le' : length P ≤ 1 + k
         le' = omega (arith, le)
 
-        go : (d : Bool) → samePt (pt (nx c)) s ≡ d → (vs : List Pt) × (_≡_ {A = List Pt} (pt c ∷ elim d [ true ↦ [] | false ↦ walk pt nx s k (nx c) ]) (s ∷ vs)) × Run P s vs s × (¬ Mem s vs)
+        go : (d : Bool) → samePt (pt (nx c)) s ≡ d
+            → (vs : List Pt) × (_≡_ {A = List Pt} (pt c ∷ elim d [ true ↦ [] | false ↦ walk pt nx s k (nx c) ]) (s ∷ vs)) × Run P s vs s
+            × (¬ Mem s vs)
         go true h = ([], ap (λ t. t ∷ []) e, subst (λ t. Edge P s t) (same-true _ _ h) edge, λ m. elim m [ ])
         go false h =
             let n = same-false _ _ h in

@@ -30,9 +30,11 @@ pp-s n = pp n
 better-true : (c n i : Pt) (s t : ℤ) → cross c n i ≡ s → d2 c n ⊕ neg (d2 c i) ≡ t → isNeg s || (isZero s && isNeg t) ≡ true → Ge c i n
 unfolding Ge 𝟘
 better-true c n i (pos zero) (pos m) e d h = absurd (mathlib.Core.Bool.false≢true h)
-better-true c n i (pos zero) (negsuc m) e d h = (nn≡ z0 (sym (flip-0 c i n e)), λ _. nn≡ (neg-nn m) (ap neg (sym d) ∙ flip-d (d2 c n) (d2 c i)))
+better-true c n i (pos zero) (negsuc m) e d h =
+    (nn≡ z0 (sym (flip-0 c i n e)), λ _. nn≡ (neg-nn m) (ap neg (sym d) ∙ flip-d (d2 c n) (d2 c i)))
 better-true c n i (pos (suc k)) t e d h = absurd (mathlib.Core.Bool.false≢true h)
-better-true c n i (negsuc k) t e d h = (nn≡ (neg-nn k) (ap neg (sym e) ∙ sym (swap c n i)), λ z. absurd (p0 (pp-s k) (ap neg (sym e) ∙ sym (swap c n i) ∙ z)))
+better-true c n i (negsuc k) t e d h =
+    (nn≡ (neg-nn k) (ap neg (sym e) ∙ sym (swap c n i)), λ z. absurd (p0 (pp-s k) (ap neg (sym e) ∙ sym (swap c n i) ∙ z)))
 
 better-false : (c n i : Pt) (s t : ℤ) → cross c n i ≡ s → d2 c n ⊕ neg (d2 c i) ≡ t → isNeg s || (isZero s && isNeg t) ≡ false → Ge c n i
 unfolding Ge 𝟘
@@ -46,7 +48,8 @@ module _ {S : Type 0} (pt : S → Pt) where
   unfolding step better
   step-ok c n i = go (better c (pt n) (pt i)) refl
     where
-      go : (b : Bool) → better c (pt n) (pt i) ≡ b → ((elim b [ true ↦ i | false ↦ n ] ≡ i) × Ge c (pt i) (pt n)) ⊎ ((elim b [ true ↦ i | false ↦ n ] ≡ n) × Ge c (pt n) (pt i))
+      go : (b : Bool) → better c (pt n) (pt i) ≡ b
+          → ((elim b [ true ↦ i | false ↦ n ] ≡ i) × Ge c (pt i) (pt n)) ⊎ ((elim b [ true ↦ i | false ↦ n ] ≡ n) × Ge c (pt n) (pt i))
       go true h = inl (refl, better-true c (pt n) (pt i) _ _ refl refl h)
       go false h = inr (refl, better-false c (pt n) (pt i) _ _ refl refl h)
 
@@ -71,18 +74,32 @@ module _ {S : Type 0} (pt : S → Pt) where
         later m (List·Memᴰ·head e) (inr q) = List·Memᴰ·head (e ∙ q)
         later m (List·Memᴰ·tail t) q = List·Memᴰ·tail (List·Memᴰ·tail t)
 
-        all' : (r : S) → Ge c (pt r) (pt i) → ((j : S) → List·Memᴰ j is → Ge c (pt r) (pt j)) → (j : S) → List·Memᴰ j (i ∷ is) → Ge c (pt r) (pt j)
+        all' : (r : S) → Ge c (pt r) (pt i) → ((j : S) → List·Memᴰ j is → Ge c (pt r) (pt j)) → (j : S) → List·Memᴰ j (i ∷ is)
+            → Ge c (pt r) (pt j)
         all' r g h j (List·Memᴰ·head e) = subst (λ t. Ge c (pt r) (pt t)) (sym e) g
         all' r g h j (List·Memᴰ·tail t) = h j t
 
-        go : (m : S) → ((m ≡ i) × Ge c (pt i) (pt n)) ⊎ ((m ≡ n) × Ge c (pt n) (pt i)) → ((m : S) → At f c (pt m) → Sel m is (select pt c m is)) → Sel n (i ∷ is) (select pt c m is)
+        go : (m : S) → ((m ≡ i) × Ge c (pt i) (pt n)) ⊎ ((m ≡ n) × Ge c (pt n) (pt i))
+            → ((m : S) → At f c (pt m) → Sel m is (select pt c m is)) → Sel n (i ∷ is) (select pt c m is)
         go m (inl q) rec =
             let hm : At f c (pt m) = subst (λ t. At f c (pt t)) (sym (q .0)) hi in
             let r = rec m hm in
             let g : Ge c (pt (select pt c m is)) (pt i) = subst (λ t. Ge c (pt (select pt c m is)) (pt t)) (q .0) (r .first) in
-            record { at = r .at; first = ge-trans f c _ (pt i) (pt n) (r .at) hi hn g (q .1); all = all' _ g (r .all); mem = later m (r .mem) (inl (q .0)) }
+            record {
+              at = r .at;
+              first = ge-trans f c _ (pt i) (pt n) (r .at) hi hn g (q .1);
+              all = all' _ g (r .all);
+              mem = later m
+                  (r .mem) (inl (q .0));
+            }
         go m (inr q) rec =
             let hm : At f c (pt m) = subst (λ t. At f c (pt t)) (sym (q .0)) hn in
             let r = rec m hm in
             let g : Ge c (pt (select pt c m is)) (pt n) = subst (λ t. Ge c (pt (select pt c m is)) (pt t)) (q .0) (r .first) in
-            record { at = r .at; first = g; all = all' _ (ge-trans f c _ (pt n) (pt i) (r .at) hn hi g (q .1)) (r .all); mem = later m (r .mem) (inr (q .0)) }
+            record {
+              at = r .at;
+              first = g;
+              all = all' _ (ge-trans f c _ (pt n) (pt i) (r .at) hn hi g (q .1)) (r .all);
+              mem = later m
+                  (r .mem) (inr (q .0));
+            }

@@ -2,7 +2,31 @@
 use mathlib.Core.Path.{refl, _≡_, sym, _∙_, ap, subst}
 use Prim.Native.Nat.{ℕ, _+_, _-_, _≤_}
 use native.Mathlib.Omega.{arith}
-use lib.IntN.{ℤ, pos, sucℤ, predℤ, negℤ, _+ℤ_, ℤ-ind, +ℤ-one, -ℤ-one, +ℤ-assoc, +ℤ-comm, +ℤ-idl, +ℤ-idr, +ℤ-invr, sucℤ-+ℤ, predℤ-+ℤ, sucℤ-*ℤ, predℤ-*ℤ, zero-*ℤ, *ℤ-zero, *ℤ-comm, negℤ-+ℤ, negℤ-negℤ}
+use lib.IntN.{
+  ℤ,
+  pos,
+  sucℤ,
+  predℤ,
+  negℤ,
+  _+ℤ_,
+  ℤ-ind,
+  +ℤ-one,
+  -ℤ-one,
+  +ℤ-assoc,
+  +ℤ-comm,
+  +ℤ-idl,
+  +ℤ-idr,
+  +ℤ-invr,
+  sucℤ-+ℤ,
+  predℤ-+ℤ,
+  sucℤ-*ℤ,
+  predℤ-*ℤ,
+  zero-*ℤ,
+  *ℤ-zero,
+  *ℤ-comm,
+  negℤ-+ℤ,
+  negℤ-negℤ,
+}
 use Rattle.whole.specs.Numbers.{_⊕_, _⊗_, neg, 𝟘, 𝟙}
 
 pub ⊕-assoc : (a b c : ℤ) → (a ⊕ b) ⊕ c ≡ a ⊕ (b ⊕ c)
@@ -63,7 +87,8 @@ down⊕ = predℤ-+ℤ
 -- induction by successor and predecessor
 ind : (P : ℤ → Type 0) → P 𝟘 → ((k : ℤ) → P k → P (sucℤ k)) → ((k : ℤ) → P k → P (predℤ k)) → (k : ℤ) → P k
 unfolding 𝟘
-ind P z s p = ℤ-ind P z (λ n h. subst P (sym (+ℤ-one (pos n))) (s (pos n) h)) (λ n h. subst P (sym (-ℤ-one (negℤ (pos n)))) (p (negℤ (pos n)) h))
+ind P z s p = ℤ-ind P z (λ n h. subst P (sym (+ℤ-one (pos n))) (s (pos n) h))
+    (λ n h. subst P (sym (-ℤ-one (negℤ (pos n)))) (p (negℤ (pos n)) h))
 
 pub ⊗-distr : (m n k : ℤ) → (m ⊕ n) ⊗ k ≡ m ⊗ k ⊕ n ⊗ k
 ⊗-distr m n k = ind (λ m. (m ⊕ n) ⊗ k ≡ m ⊗ k ⊕ n ⊗ k)
@@ -75,7 +100,8 @@ pub ⊗-distl : (k m n : ℤ) → k ⊗ (m ⊕ n) ≡ k ⊗ m ⊕ k ⊗ n
 ⊗-distl k m n = ⊗-comm k (m ⊕ n) ∙ ⊗-distr m n k ∙ ap (λ x. x ⊕ n ⊗ k) (⊗-comm m k) ∙ ap (λ x. k ⊗ m ⊕ x) (⊗-comm n k)
 
 pub cancel : (a b c : ℤ) → a ⊕ c ≡ b ⊕ c → a ≡ b
-cancel a b c h = sym (⊕-𝟘 a) ∙ ap (λ x. a ⊕ x) (sym (⊕-neg c)) ∙ sym (⊕-assoc a c (neg c)) ∙ ap (λ x. x ⊕ (neg c)) h ∙ ⊕-assoc b c (neg c) ∙ ap (λ x. b ⊕ x) (⊕-neg c) ∙ ⊕-𝟘 b
+cancel a b c h = sym (⊕-𝟘 a) ∙ ap (λ x. a ⊕ x) (sym (⊕-neg c)) ∙ sym (⊕-assoc a c (neg c)) ∙ ap (λ x. x ⊕ (neg c)) h ∙ ⊕-assoc b c (neg c)
+    ∙ ap (λ x. b ⊕ x) (⊕-neg c) ∙ ⊕-𝟘 b
 
 pub neg-⊗ : (a b : ℤ) → (neg a) ⊗ b ≡ neg (a ⊗ b)
 neg-⊗ a b = cancel ((neg a) ⊗ b) (neg (a ⊗ b)) (a ⊗ b)
@@ -85,7 +111,8 @@ pub ⊗-assoc : (m k l : ℤ) → (m ⊗ k) ⊗ l ≡ m ⊗ (k ⊗ l)
 ⊗-assoc m k l = ind (λ m. (m ⊗ k) ⊗ l ≡ m ⊗ (k ⊗ l))
     (ap (λ x. x ⊗ l) (𝟘-⊗ k) ∙ 𝟘-⊗ l ∙ sym (𝟘-⊗ (k ⊗ l)))
     (λ m h. ap (λ x. x ⊗ l) (up m k) ∙ ⊗-distr (m ⊗ k) k l ∙ ap (λ x. x ⊕ k ⊗ l) h ∙ sym (up m (k ⊗ l)))
-    (λ m h. ap (λ x. x ⊗ l) (down m k) ∙ ⊗-distr (m ⊗ k) (neg k) l ∙ ap (λ x. x ⊕ (neg k) ⊗ l) h ∙ ap (λ x. m ⊗ (k ⊗ l) ⊕ x) (neg-⊗ k l) ∙ sym (down m (k ⊗ l))) m
+    (λ m h. ap (λ x. x ⊗ l) (down m k) ∙ ⊗-distr (m ⊗ k) (neg k) l ∙ ap (λ x. x ⊕ (neg k) ⊗ l) h ∙ ap (λ x. m ⊗ (k ⊗ l) ⊕ x) (neg-⊗ k l)
+    ∙ sym (down m (k ⊗ l))) m
 
 pub ⊗-lcomm : (a b c : ℤ) → a ⊗ (b ⊗ c) ≡ b ⊗ (a ⊗ c)
 ⊗-lcomm a b c = sym (⊗-assoc a b c) ∙ ap (λ x. x ⊗ c) (⊗-comm a b) ∙ ⊗-assoc b a c
@@ -100,7 +127,8 @@ neg-neg = negℤ-negℤ
 
 -- a difference of natural numbers that is one
 pub sub-nat : (x y : ℕ) → y ≤ x → pos (x - y) ≡ pos x ⊕ neg (pos y)
-sub-nat x y k = sym (⊕-𝟘 _) ∙ ap (λ t. pos (x - y) ⊕ t) (sym (⊕-neg (pos y))) ∙ sym (⊕-assoc (pos (x - y)) (pos y) (neg (pos y))) ∙ ap (λ t. t ⊕ neg (pos y)) (fold ∙ ap pos (back x y k))
+sub-nat x y k = sym (⊕-𝟘 _) ∙ ap (λ t. pos (x - y) ⊕ t) (sym (⊕-neg (pos y))) ∙ sym (⊕-assoc (pos (x - y)) (pos y) (neg (pos y)))
+    ∙ ap (λ t. t ⊕ neg (pos y)) (fold ∙ ap pos (back x y k))
   where
     fold : pos (x - y) ⊕ pos y ≡ pos (x - y + y)
     fold = unfold _⊕_ in refl

@@ -87,7 +87,8 @@ d2N a b = nn+ (sqN _) (sqN _)
 
 pub d2-0 : (a b : Pt) → d2 a b ≡ 𝟘 → a ≡ b
 unfolding d2
-d2-0 a b e = let h = sum0 (sqN (a .x ⊕ neg (b .x))) (sqN (a .y ⊕ neg (b .y))) e in pt≡ a b (sub0 _ _ (sq0 _ (h .0))) (sub0 _ _ (sq0 _ (h .1)))
+d2-0 a b e = let h =
+    sum0 (sqN (a .x ⊕ neg (b .x))) (sqN (a .y ⊕ neg (b .y))) e in pt≡ a b (sub0 _ _ (sq0 _ (h .0))) (sub0 _ _ (sq0 _ (h .1)))
 
 pub d2-self : (a : Pt) → d2 a a ≡ 𝟘
 unfolding d2 𝟘

@@ -28,11 +28,15 @@ module _ (P : List Pt) where
   wlk-is : (s k c : ℕ) → map (ptAt P) (wlk (whole P) (length P) s k c) ≡ walk (ptAt P) (nextOf P) (ptAt P s) k c
   unfolding wlk walk whole
   wlk-is s zero c = refl
-  wlk-is s (suc k) c = go (samePt (ptAt P (nxt (whole P) (length P) c)) (ptAt P s)) (samePt (ptAt P (nextOf P c)) (ptAt P s)) (ap (λ t. samePt (ptAt P t) (ptAt P s)) (nxt-is c))
+  wlk-is s (suc k) c =
+      go (samePt (ptAt P (nxt (whole P) (length P) c)) (ptAt P s)) (samePt (ptAt P (nextOf P c)) (ptAt P s))
+      (ap (λ t. samePt (ptAt P t) (ptAt P s)) (nxt-is c))
       (wlk-is s k (nxt (whole P) (length P) c) ∙ ap (walk (ptAt P) (nextOf P) (ptAt P s) k) (nxt-is c))
     where
-      go : (a b : Bool) → a ≡ b → map (ptAt P) (wlk (whole P) (length P) s k (nxt (whole P) (length P) c)) ≡ walk (ptAt P) (nextOf P) (ptAt P s) k (nextOf P c)
-          → _≡_ {A = List Pt} (map (ptAt P) (c ∷ elim a [ true ↦ [] | false ↦ wlk (whole P) (length P) s k (nxt (whole P) (length P) c) ])) (ptAt P c ∷ elim b [ true ↦ [] | false ↦ walk (ptAt P) (nextOf P) (ptAt P s) k (nextOf P c) ])
+      go : (a b : Bool) → a ≡ b
+          → map (ptAt P) (wlk (whole P) (length P) s k (nxt (whole P) (length P) c)) ≡ walk (ptAt P) (nextOf P) (ptAt P s) k (nextOf P c)
+          → _≡_ {A = List Pt} (map (ptAt P) (c ∷ elim a [ true ↦ [] | false ↦ wlk (whole P) (length P) s k (nxt (whole P) (length P) c) ]))
+          (ptAt P c ∷ elim b [ true ↦ [] | false ↦ walk (ptAt P) (nextOf P) (ptAt P s) k (nextOf P c) ])
       go true true e h = refl
       go true false e h = absurd (mathlib.Core.Bool.true≢false e)
       go false true e h = absurd (mathlib.Core.Bool.false≢true e)
@@ -40,7 +44,8 @@ module _ (P : List Pt) where
 
   pub wrap-is : map (ptAt P) (wrap (whole P) (length P)) ≡ hull P
   unfolding wrap hull startOf
-  wrap-is = wlk-is (lst (whole P) 0 (range 0 (length P))) (length P) (lst (whole P) 0 (range 0 (length P))) ∙ ap (λ t. walk (ptAt P) (nextOf P) (ptAt P t) (length P) t) (lst-is 0 (range 0 (length P)))
+  wrap-is = wlk-is (lst (whole P) 0 (range 0 (length P))) (length P) (lst (whole P) 0 (range 0 (length P)))
+      ∙ ap (λ t. walk (ptAt P) (nextOf P) (ptAt P t) (length P) t) (lst-is 0 (range 0 (length P)))
 
 -- ---- tests that agree below n wrap alike
 module _ (t u : Tests) (n : ℕ) (some : 0 < n)
@@ -59,7 +64,8 @@ module _ (t u : Tests) (n : ℕ) (some : 0 < n)
   sel-cong c m [] hc hm h = (refl, hm)
   sel-cong c m (i ∷ is) hc hm h =
       let hi = h i (List·Memᴰ·head refl) in
-      let r = sel-cong c (elim (t .bet c m i) as (λ _. ℕ) [ true ↦ i | false ↦ m ]) is hc (if< (t .bet c m i) i m hi hm) (λ j k. h j (List·Memᴰ·tail k)) in
+      let r = sel-cong c (elim (t .bet c m i) as (λ _. ℕ) [ true ↦ i | false ↦ m ]) is hc (if< (t .bet c m i) i m hi hm)
+      (λ j k. h j (List·Memᴰ·tail k)) in
       (r .0 ∙ ap (λ (b : Bool). sel u c (elim b as (λ _. ℕ) [ true ↦ i | false ↦ m ]) is) (bets c m i hc hm hi), r .1)
 
   lst-cong : (m : ℕ) (is : List ℕ) → m < n → All is → (lst t m is ≡ lst u m is) × (lst t m is < n)
@@ -67,7 +73,8 @@ module _ (t u : Tests) (n : ℕ) (some : 0 < n)
   lst-cong m [] hm h = (refl, hm)
   lst-cong m (i ∷ is) hm h =
       let hi = h i (List·Memᴰ·head refl) in
-      let r = lst-cong (elim (t .low i m) as (λ _. ℕ) [ true ↦ i | false ↦ m ]) is (if< (t .low i m) i m hi hm) (λ j k. h j (List·Memᴰ·tail k)) in
+      let r = lst-cong (elim (t .low i m) as (λ _. ℕ) [ true ↦ i | false ↦ m ]) is (if< (t .low i m) i m hi hm)
+      (λ j k. h j (List·Memᴰ·tail k)) in
       (r .0 ∙ ap (λ (b : Bool). lst u (elim b as (λ _. ℕ) [ true ↦ i | false ↦ m ]) is) (lows i m hi hm), r .1)
 
   in-range : (m k i : ℕ) → List·Memᴰ i (range m k) → i < m + k

@@ -1,4 +1,5 @@
--- The walk of the hull and the search of the quad by indices, with tests and values as parameters: one rule for f32 and whole numbers. Definitions only.
+-- The walk of the hull and the search of the quad by indices, with tests and values as parameters: one rule for f32 and whole numbers.
+-- Definitions only.
 use mathlib.Core.Bool.{Bool, true, false, _&&_}
 use mathlib.Core.List.{List, [], _∷_, map, _++_}
 use Prim.Native.Nat.{ℕ, zero, suc, _+_, _%_, _<_}
@@ -35,7 +36,12 @@ wrap t n = wlk t n (lst t 0 (range 0 n)) n (lst t 0 (range 0 n))
 
 -- ---- the whole-number tests give the hull
 unfoldable pub whole : List Pt → Tests
-whole P = record { bet = λ c n i. better (ptAt P c) (ptAt P n) (ptAt P i); low = λ i n. lower (ptAt P i) (ptAt P n); eq = λ i j. samePt (ptAt P i) (ptAt P j) }
+whole P = record {
+  bet = λ c n i. better (ptAt P c) (ptAt P n) (ptAt P i);
+  low = λ i n. lower (ptAt P i) (ptAt P n);
+  eq = λ i j. samePt
+      (ptAt P i) (ptAt P j);
+}
 
 -- a fold that keeps the last candidate that passed the test `t kept new`
 unfoldable pub keep : {T E : Type 0} → (E → E → Bool) → (T → E) → T → E → List T → T × E
@@ -65,7 +71,11 @@ module _ {E : Type 0} (o : Ops E) where
   ends n a b =
       let c = keep (o .less) (o .side a b) a (o .nil) (range 0 n) in
       let e = keep (λ u s. o .less s u) (o .side a b) a (o .nil) (range 0 n) in
-      elim (o .less (o .nil) (c .1) && o .less (e .1) (o .nil)) [ false ↦ [] | true ↦ elim (o .back (o .quadArea a (c .0) b (e .0))) [ false ↦ a ∷ c .0 ∷ b ∷ e .0 ∷ [] | true ↦ a ∷ e .0 ∷ b ∷ c .0 ∷ [] ] ]
+      elim (o .less (o .nil) (c .1) && o .less (e .1) (o .nil)) [
+        | false ↦ []
+        | true ↦ elim
+            (o .back (o .quadArea a (c .0) b (e .0))) [ false ↦ a ∷ c .0 ∷ b ∷ e .0 ∷ [] | true ↦ a ∷ e .0 ∷ b ∷ c .0 ∷ [] ]
+      ]
 
   unfoldable pub iquad : ℕ → List ℕ
   iquad n = elim (ltb n 4) [ true ↦ [] | false ↦ ends n (fars n .0) (fars n .1) ]

@@ -1,0 +1,50 @@
+// The oracle's driver: each command reads standard input and writes what the Rust answers.
+#![allow(dead_code)]
+mod att;
+mod bench;
+mod border;
+mod calc;
+mod calls;
+mod fuzz;
+mod list;
+mod pic;
+use std::io::{Read, Write};
+
+const AREAS: &[&calls::Area] = &[&border::AREA];
+
+/// The areas of a name, or all of them.
+fn areas(name: &str) -> Vec<&'static calls::Area> {
+    AREAS.iter().copied().filter(|a| name == "all" || a.name == name).collect()
+}
+
+fn stdin() -> Vec<u8> {
+    let mut b = Vec::new();
+    std::io::stdin().read_to_end(&mut b).unwrap();
+    b
+}
+
+fn main() {
+    let a: Vec<String> = std::env::args().collect();
+    let num = |i: usize, d: u64| a.get(i).and_then(|s| s.parse().ok()).unwrap_or(d);
+    let say = |s: String| std::io::stdout().write_all(s.as_bytes()).unwrap();
+    match a.get(1).map(|s| s.as_str()) {
+        Some("traylist") => say(list::listing(&stdin())),
+        Some("dump") => say(list::dump(&stdin())),
+        Some("attempt") => say(att::run(&att::decode(&stdin()))),
+        Some("attempt-verbose") => say(att::verbose(&att::decode(&stdin()))),
+        Some("calc") => calc::run(),
+        Some("fuzz") => fuzz::run(num(2, 1), num(3, 10000)),
+        Some("bench") => bench::run(),
+        Some("vectors") => areas(&a[2]).into_iter().for_each(calls::vectors),
+        // compare AREA|all SEED SECONDS [MOST]: the seconds are shared by the areas
+        Some("compare") => {
+            let which = areas(&a[2]);
+            let seconds = num(4, 20) as f64 / which.len().max(1) as f64;
+            which.into_iter().for_each(|x| calls::compare(x, num(3, 1), seconds, num(5, u64::MAX)));
+        }
+        _ => {
+            eprintln!("usage: oracle traylist|dump|attempt|attempt-verbose|calc|fuzz SEED N|bench|vectors AREA|compare AREA|all SEED SECONDS [MOST]");
+            std::process::exit(2);
+        }
+    }
+}
