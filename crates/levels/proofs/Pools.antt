@@ -5,9 +5,9 @@ use mathlib.Core.Path.{_∙_, _≡_, refl}
 use Prim.Native.Nat.{_%_, _*_, _+_, _-_, _/_, _≤_, ℕ}
 use native.Mathlib.Omega.{arith}
 use lib.ListN.{drop, getD, length, length-drop, length-take, take}
-use Rattle.laws.proofs.Bytes.{written-ext}
 use Rattle.laws.proofs.Folds.{fold-ext, fold-suc, getD-written}
 use Rattle.laws.proofs.Planes.{boxRow-part, drawn-ext, getD-part, part, plane-drawn}
+use Rattle.laws.proofs.Stores.{written-ext}
 use Rattle.laws.specs.Fold.{fold, written}
 use Rattle.laws.specs.Plane.{Alike, Plane, binsOf, box, drawn, plane, rowwise}
 use Rattle.levels.specs.Level.{from3, leastNear, many3, mostNear, sharp}

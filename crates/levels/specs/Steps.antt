@@ -1,14 +1,15 @@
 -- The level grid in the steps that the code takes: what its inner functions ask of the lists that they are handed, and what each leaves.
 -- Definitions only. Assumes nothing.
-use mathlib.Core.Bool.{Bool, true, false}
+use mathlib.Core.Bool.{Bool, false, true}
 use mathlib.Core.List.{List}
 use mathlib.Core.Path.{_≡_}
-use Prim.Native.Nat.{ℕ, _+_, _*_, _≤_, _<_, min, max}
-use lib.ListN.{length, getD, drop}
-use Rattle.margin.specs.Threshold.{threshold}
+use Prim.Native.Nat.{_*_, _+_, _<_, _≤_, max, min, ℕ}
+use lib.Ieee.{odd}
+use lib.ListN.{getD, length}
 use Rattle.laws.specs.Fold.{fold}
 use Rattle.laws.specs.Plane.{Plane, boxRow}
 use Rattle.levels.specs.Level.{countList, from3, many3}
+use Rattle.margin.specs.Threshold.{threshold}
 
 -- A picture of width w and height h, row by row.
 pub record Picture (s : List ℕ) (w h : ℕ) : Type 0 where
@@ -29,10 +30,6 @@ pub record Rooms (n : ℕ) (grid darks lights : List ℕ) : Type 0 where
   pub grids : n ≤ length grid
   pub first : n ≤ length darks
   pub second : n ≤ length lights
-
--- A list of which n places are needed keeps the places past them.
-abbrev pub UntouchedPast : ℕ → List ℕ → List ℕ → Type 0
-UntouchedPast n old new = drop n new ≡ drop n old
 
 -- The first n places of a list hold bytes.
 abbrev pub Bytes : ℕ → List ℕ → Type 0

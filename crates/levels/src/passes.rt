@@ -3,9 +3,10 @@ ghost use mathlib.Core.Path.{_≡_};
 ghost use Prim.Native.Nat.{ℕ, _+_, _*_, _≤_, _<_};
 ghost use lib.ListN.{length, getD};
 ghost use Rattle.laws.specs.Fold.{written};
+ghost use Rattle.laws.specs.Lent.{UntouchedPast};
 ghost use Rattle.laws.specs.Plane.{plane, drawn, binsOf};
 ghost use Rattle.levels.specs.Level.{west, east, north, south, nonzero, mean, fillAt, passes};
-ghost use Rattle.levels.specs.Steps.{Grid, Bytes, UntouchedPast};
+ghost use Rattle.levels.specs.Steps.{Grid, Bytes};
 
 // The side neighbours of a cell, 0 outside the grid.
 fn west_of(g: &[u8], w: usize, x: usize, y: usize) -> u8

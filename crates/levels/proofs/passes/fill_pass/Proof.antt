@@ -2,8 +2,8 @@
 use Prim.Native.Nat.{_*_, _-_}
 use native.Mathlib.Omega.{arith}
 use borrow.Author.Needs.{needs}
-use Rattle.laws.proofs.Bytes.{small-step}
 use Rattle.laws.proofs.Drawing.{Drawing, drawing-begin, drawing-end, drawing-on, drawing-row, drawing-x, drawing-y}
+use Rattle.laws.proofs.Stores.{small-step}
 use Rattle.laws.specs.Plane.{plane}
 use Rattle.levels.specs.Level.{fillAt}
 use Rattle.levels.specs.Steps.{Bytes}

@@ -1,14 +1,16 @@
--- Lists that are written from a function, once more: functions that agree, and values that stay small. Assumes nothing.
+-- Stores into lists: lists written from functions that agree, values that stay small, an element after a store, and lists of zeros. Assumes nothing.
 use mathlib.Core.List.{List, _++_}
-use mathlib.Core.Path.{_≡_, ap}
+use mathlib.Core.Logic.{_⊎_, inl, inr}
+use mathlib.Core.Path.{_∙_, _≡_, ap, sym}
 use Prim.Native.Nat.{_%_, _*_, _+_, _/_, _<_, _≤_, ℕ}
 use native.Mathlib.Decide.{ℕ-discrete}
 use native.Mathlib.Omega.{arith}
-use lib.ListN.{drop, getD, length, set}
-use lib.Seq.{getD-set-other, getD-set-same}
+use lib.ListN.{drop, getD, getD-replicate, length, length-replicate, set}
+use lib.Seq.{ext-getD, getD-set-other, getD-set-same}
 use Rattle.laws.proofs.Folds.{getD-written, tab-ext}
 use Rattle.laws.proofs.Planes.{col-lt, row-lt}
 use Rattle.laws.specs.Fold.{written}
+use Rattle.laws.specs.Lent.{zeros}
 use Rattle.laws.specs.Plane.{Plane, drawn, rowwise}
 
 -- functions that agree below n
@@ -29,3 +31,16 @@ pub small-drawn : (m w h : ℕ) (g : Plane) (old : List ℕ) → ((x y : ℕ) �
     → (i : ℕ) → i < w * h → getD (drawn w h g old) i 0 ≤ m
 small-drawn m w h g old small i below =
     rw (getD-written (w * h) (rowwise w g) old i 0 below) (small (i % w) (i / w) (col-lt i w h below) (row-lt i w h below))
+
+-- an element after a store
+pub at-set : (l : List ℕ) (j v c : ℕ) → j < length l → ((c ≡ j) × (getD (set l j v) c 0 ≡ v)) ⊎ ((c ≡ j → ⊥) × (getD (set l j v) c 0 ≡ getD l c 0))
+at-set l j v c within = go (ℕ-discrete c j)
+  where
+    go : Dec (c ≡ j) → ((c ≡ j) × (getD (set l j v) c 0 ≡ v)) ⊎ ((c ≡ j → ⊥) × (getD (set l j v) c 0 ≡ getD l c 0))
+    go (yes e) = inl (e, rw e (getD-set-same l j v 0 within))
+    go (no e) = inr (e, getD-set-other l j c v 0 e)
+
+-- a list of zeros as long as another
+pub is-zeros : (old l : List ℕ) → length l ≡ length old → ((i : ℕ) → i < length l → getD l i 0 ≡ 0) → l ≡ zeros old
+is-zeros old l same none =
+    ext-getD 0 l (zeros old) (same ∙ sym (length-replicate (length old) 0)) (λ i b. none i b ∙ sym (getD-replicate (length old) i 0 0 (omega arith)))

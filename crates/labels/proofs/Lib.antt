@@ -1,0 +1,4 @@
+pub mod VisitLaws
+pub mod Window
+pub mod FillLaws
+pub mod Labellings
