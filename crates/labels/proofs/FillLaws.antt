@@ -1,4 +1,22 @@
 -- What the fill of a group keeps (Fill) and what group after group keeps (Outer): at the end every cell has its label. Assumes nothing.
+use mathlib.Core.Bool.{Bool, cond, false, true}
+use mathlib.Core.List.{List}
+use mathlib.Core.Logic.{_⊎_, inl, inr, ⊎-elim}
+use mathlib.Core.Path.{_∙_, _≡_, ap, refl, sym}
+use Prim.Native.Nat.{_+_, _<_, _≤_, ℕ}
+use native.Mathlib.Decide.{decLt}
+use native.Mathlib.Numerals.{add-one}
+use native.Mathlib.Omega.{arith}
+use lib.ListN.{getD, length, set}
+use lib.Seq.{getD-set-other, getD-set-same}
+use Rattle.labels.proofs.VisitLaws.{marked-in, pop-safe, run-kept, run-safe, safe-begin, step-done, step-kept, step-safe}
+use Rattle.labels.specs.Visits.{Emptied, Flooded, MARK, Run, Safe, Shut, Step, begin, on, pass, pop, push, stop}
+use Rattle.laws.proofs.Bools.{at-or-below, clash, which}
+use Rattle.laws.proofs.Counts.{count-no, count-yes}
+use Rattle.laws.proofs.Stores.{at-set}
+use Rattle.laws.specs.Count.{count}
+use Rattle.regions.proofs.Graph.{first-ink, first-of, label-none, label-same, labelled, leader-le, leader-linked, linked-right}
+use Rattle.regions.specs.Labels.{Grid, Linked, first?, here, label, leader, near, step}
 
 -- The cell `c` is among the `k` that are on the stack.
 pub On : List ℕ → ℕ → ℕ → Type 0

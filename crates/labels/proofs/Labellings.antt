@@ -1,4 +1,27 @@
 -- The labelling, cell after cell (Labelling), and the bounds of labels and of their number. Assumes nothing.
+use mathlib.Core.Bool.{Bool, true}
+use mathlib.Core.List.{List, _++_}
+use mathlib.Core.Logic.{⊎-elim}
+use mathlib.Core.Path.{_∙_, _≡_, ap, refl, subst, sym}
+use Prim.Native.Nat.{_+_, _-_, _<_, _≤_, min, ℕ}
+use native.Mathlib.Omega.{arith}
+use lib.ListN.{drop, getD, length, length-append, length-drop, replicate, take}
+use lib.Seq.{drop-append-add, drop-drop, length-take-le}
+use Rattle.labels.proofs.FillLaws.{Outer, outer-begin, outer-end, outer-mark, outer-skip}
+use Rattle.labels.proofs.VisitLaws.{marked-in}
+use Rattle.labels.specs.Labelling.{Answers, Inked, Labels, One, cleared, full, given, mark, numbered, short, skip}
+use Rattle.labels.specs.Visits.{Flooded, MARK}
+use Rattle.laws.proofs.Bools.{which}
+use Rattle.laws.proofs.Counts.{count-most, count-step}
+use Rattle.laws.proofs.Folds.{is-tab}
+use Rattle.laws.proofs.Planes.{part}
+use Rattle.laws.specs.Count.{count}
+use Rattle.laws.specs.Lent.{zeros}
+use Rattle.regions.proofs.Cells.{grid}
+use Rattle.regions.proofs.Graph.{first-ink, first-leader, label-ink, label-none}
+use Rattle.regions.specs.Labels.{Grid, first?, label, leader, near}
+use Rattle.labels.specs.declared.groups.Next.{Next}
+use Rattle.labels.specs.declared.groups.Next.the-variants.{At, Full}
 
 pub ink-within : (ink : ℕ → Bool) (l : List ℕ) → Inked ink l → (c : ℕ) → ink c ≡ true → c < length l
 unfolding Inked
@@ -78,3 +101,41 @@ module _ (w n : ℕ) (l₀ st₀ : List ℕ) (e : length l₀ ≡ n) where
       let z : v + 1 ≡ v′ = cc in
       rw (← z) (labelling-mark w n l₀ st₀ e a b p m d x y)
   labelling-one a b p (full h) q x y = absurd (let z : _≡_ {A = ℕ} 0 1 = cc in omega arith)
+
+-- ---- the answers
+pub labels-at : {w n v : ℕ} {l st l′ : List ℕ} {r : Next} → Labels w n l st l′ r → r ≡ At v
+    → (ink : ℕ → Bool) → Inked ink l → ((c : ℕ) → getD l′ c 0 ≡ label ink (near w) n c) × (v ≡ count (first? ink (near w) n) n)
+labels-at {v = v} (numbered {v = u} f) e ink h = let z : u ≡ v = cc in (f ink h .0, sym z ∙ f ink h .1)
+labels-at (short h) e ink k = absurd (let z : _≡_ {A = ℕ} 0 1 = cc in omega arith)
+
+pub labels-full : {w n : ℕ} {l st l′ : List ℕ} {r : Next} → Labels w n l st l′ r → r ≡ Full → length st < length l
+labels-full (numbered f) e = absurd (let z : _≡_ {A = ℕ} 0 1 = cc in omega arith)
+labels-full (short h) e = h
+
+-- the places past n, where the first m are lent
+past : (n m : ℕ) (st part : List ℕ) → m ≡ min n (length st) → length part ≡ m → drop n (part ++ drop m st) ≡ drop n st
+past n m st part em same =
+    let e : n ≡ length part + (n - m) = omega arith in
+    let f : m + (n - m) ≡ n = omega arith in
+    ap (λ (k : ℕ). drop k (part ++ drop m st)) e ∙ drop-append-add part (drop m st) (n - m) ∙ drop-drop (n - m) m st ∙ ap (λ (k : ℕ). drop k st) f
+
+pub answers-given : (w n m : ℕ) (l st l₁ st₁ : List ℕ) {r : Next} {v : ℕ} → n ≤ length l → m ≡ min n (length st)
+    → Labels w n (take n l) (take m st) l₁ r → r ≡ At v → length l₁ ≡ length (take n l) → length st₁ ≡ length (take m st)
+    → Answers w n l st (l₁ ++ drop n l) (st₁ ++ drop m st) (At v)
+answers-given w n m l st l₁ st₁ room em a e same same-stack =
+    given
+    (λ ink h.
+      let q = labels-at a e ink h in
+      (ap (λ (t : List ℕ). t ++ drop n l) (is-tab n (label ink (near w) n) l₁ (same ∙ length-take-le n l room) (λ c b. q .0 c)), q .1))
+    (past n m st st₁ em (same-stack ∙ length-take-le m st (omega arith)))
+
+pub answers-cleared : (w n m : ℕ) (l st l₁ l₂ st₁ st₂ : List ℕ) {r : Next} → n ≤ length l → m ≡ min n (length st)
+    → Labels w n (take n l) (take m st) l₁ r → r ≡ Full → l₂ ≡ zeros (l₁ ++ drop n l) → st₂ ≡ zeros (st₁ ++ drop m st)
+    → length l₁ ≡ length (take n l) → length st₁ ≡ length (take m st) → Answers w n l st l₂ st₂ Full
+answers-cleared w n m l st l₁ l₂ st₁ st₂ room em a e el es same same-stack =
+    let short = labels-full a e in
+    let t = length-take-le n l room in
+    let u = length-take-le m st (omega arith) in
+    let same-l : length (l₁ ++ drop n l) ≡ length l = simp (length-append, length-drop) (omega arith) in
+    let same-st : length (st₁ ++ drop m st) ≡ length st = simp (length-append, length-drop) (omega arith) in
+    cleared (omega arith) (el ∙ ap (λ (k : ℕ). replicate k 0) same-l) (es ∙ ap (λ (k : ℕ). replicate k 0) same-st)

@@ -1,5 +1,24 @@
 -- Laws of marks, of a visit and of visits one after the other: what each keeps (step-, run-), the loop over a row (Row), the loop that empties the stack
 -- (Flow), and the answers where the stack is full. Assumes nothing.
+use mathlib.Core.Bool.{Bool, false, true}
+use mathlib.Core.List.{List, [], _∷_}
+use mathlib.Core.Logic.{_⊎_, inl, inr, ⊎-elim}
+use mathlib.Core.Path.{_∙_, _≡_, refl, subst, sym}
+use Prim.Native.Nat.{_+_, _-_, _<_, _≤_, suc, zero, ℕ}
+use native.Mathlib.Decide.{ℕ-discrete}
+use native.Mathlib.Numerals.{add-one}
+use native.Mathlib.Omega.{arith}
+use lib.Dec.{eqb}
+use lib.ListN.{getD, length, length-set, set}
+use lib.Seq.{getD-set-same}
+use borrow.Author.Tests.{eq-eqb, ne-eqb}
+use Rattle.labels.specs.Visits.{Emptied, Fills, Flooded, InRow, MARK, Or, Rowed, Run, Safe, Shut, Step, at-or, fills, full-or, marks,
+    on, pass, pop, push, stop, stops}
+use Rattle.laws.proofs.Bools.{at-or-below, which}
+use Rattle.laws.proofs.Stores.{at-set}
+use Rattle.regions.specs.Labels.{near}
+use Rattle.labels.specs.declared.groups.Depth.{Depth}
+use Rattle.labels.specs.declared.groups.Depth.the-variants.{At, Full}
 
 -- ---- marks
 
@@ -36,14 +55,6 @@ marked-in (x ∷ xs) (suc j) e = omega (arith, marked-in xs j e)
 
 pub marks-pos : (l : List ℕ) (j : ℕ) → getD l j 0 ≡ MARK → 1 ≤ marks l
 marks-pos l j e = omega (arith, marks-set l j 0 e (λ q. omega arith))
-
--- an element after a store
-pub at-set : (l : List ℕ) (j v c : ℕ) → j < length l → ((c ≡ j) × (getD (set l j v) c 0 ≡ v)) ⊎ ((c ≡ j → ⊥) × (getD (set l j v) c 0 ≡ getD l c 0))
-at-set l j v c h = go (ℕ-discrete c j)
-  where
-    go : Dec (c ≡ j) → ((c ≡ j) × (getD (set l j v) c 0 ≡ v)) ⊎ ((c ≡ j → ⊥) × (getD (set l j v) c 0 ≡ getD l c 0))
-    go (yes e) = inl (e, rw e (getD-set-same l j v 0 h))
-    go (no e) = inr (e, getD-set-other l j c v 0 e)
 
 -- ---- what a visit keeps
 

@@ -1,5 +1,20 @@
 -- The cells near a cell `i` of a grid of `h` rows of `w` cells, as the code goes through them: row after row, in each the cells from one column up to
 -- another. Assumes nothing.
+use mathlib.Core.Bool.{true}
+use mathlib.Core.List.{List}
+use mathlib.Core.Logic.{⊎-elim}
+use mathlib.Core.Path.{_∙_, _≡_, ap, refl}
+use Prim.Native.Nat.{_%_, _*_, _+_, _-_, _/_, _<_, _≤_, min, ℕ}
+use native.Mathlib.Nat.{div-add-mod', div-lt-iff-lt-mul, mod-lt, mul-le-mul-right, suc-mul}
+use native.Mathlib.Numerals.{add-one}
+use native.Mathlib.Omega.{arith}
+use lib.Arith.{digits-div, digits-mod}
+use lib.ListN.{getD, length}
+use Rattle.labels.proofs.VisitLaws.{marked-in, run-kept, run-length, run-map, run-trans}
+use Rattle.labels.specs.Visits.{InRow, MARK, Run, Shut, stop}
+use Rattle.laws.proofs.Bools.{at-or-below}
+use Rattle.regions.proofs.Cells.{close-left, close-of, close-right, near-columns, near-of, near-rows}
+use Rattle.regions.specs.Labels.{near}
 
 -- a row of the window lies within the grid
 pub row-within : (g h w x : ℕ) → g < h → x ≤ w → g * w + x ≤ h * w

@@ -1,4 +1,16 @@
 -- The labels of a grid of cells in a list: what one cell does, what all do, and the answer where the stack is full. Definitions only. Assumes nothing.
+use mathlib.Core.Bool.{Bool, cond}
+use mathlib.Core.List.{List}
+use mathlib.Core.Path.{_≡_}
+use Prim.Native.Nat.{_+_, _<_, ℕ}
+use lib.ListN.{getD, length, take}
+use Rattle.labels.specs.Visits.{Flooded, MARK}
+use Rattle.laws.specs.Count.{count}
+use Rattle.laws.specs.Fold.{written}
+use Rattle.laws.specs.Lent.{UntouchedPast, zeros}
+use Rattle.regions.specs.Labels.{first?, label, near}
+use Rattle.labels.specs.declared.groups.Next.{Next}
+use Rattle.labels.specs.declared.groups.Next.the-variants.{At, Full}
 
 -- The marks of the list are the ink cells.
 unfoldable pub Inked : (ℕ → Bool) → List ℕ → Type 0
@@ -13,7 +25,7 @@ pub data One (near : ℕ → ℕ → Bool) (v s : ℕ) (l st l′ st′ : List �
 -- A grid of n cells in rows of w that fills the list l: each cell gets its label, and v is how many there are; or a push found the stack full, which happens
 -- only where it has fewer places than there are cells.
 pub data Labels (w n : ℕ) (l st l′ : List ℕ) : Next → Type 0 where
-  labels : {v : ℕ} → ((ink : ℕ → Bool) → Inked ink l → ((c : ℕ) → getD l′ c 0 ≡ label ink (near w) n c) × (v ≡ count (first? ink (near w) n) n))
+  numbered : {v : ℕ} → ((ink : ℕ → Bool) → Inked ink l → ((c : ℕ) → getD l′ c 0 ≡ label ink (near w) n c) × (v ≡ count (first? ink (near w) n) n))
       → Labels w n l st l′ (At v)
   short : length st < length l → Labels w n l st l′ Full
 

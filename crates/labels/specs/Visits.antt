@@ -1,6 +1,15 @@
 -- The flood fill over a list of labels and a stack, as document 01 has it under "Cell labels": only an ink cell without a label is pushed, and it gets its
 -- label as it is pushed. What a visit of a cell, the visits of a cell's neighbours and the fill of a group do. In the list 0 is a cell without ink,
 -- `MARK` an ink cell that has no label yet. Definitions only. Assumes nothing.
+use mathlib.Core.Bool.{Bool, cond, false, true}
+use mathlib.Core.List.{List, [], _∷_}
+use mathlib.Core.Path.{_≡_}
+use Prim.Native.Nat.{_+_, _<_, _≤_, suc, ℕ}
+use lib.Dec.{eqb}
+use lib.ListN.{getD, length, set}
+use Rattle.regions.specs.Labels.{near}
+use Rattle.labels.specs.declared.groups.Depth.{Depth}
+use Rattle.labels.specs.declared.groups.Depth.the-variants.{At, Full}
 
 abbrev pub MARK : ℕ
 MARK = 4294967295
