@@ -9,7 +9,7 @@ use lib.ListN.{drop, getD, length, length-append, length-drop, replicate, take}
 use lib.Seq.{drop-append-add, drop-drop, length-take-le}
 use Rattle.labels.proofs.FillLaws.{Outer, outer-begin, outer-end, outer-mark, outer-skip}
 use Rattle.labels.proofs.VisitLaws.{marked-in}
-use Rattle.labels.specs.Labelling.{Answers, Inked, Labels, One, cleared, full, given, mark, numbered, short, skip}
+use Rattle.labels.specs.Labelling.{Answers, Inked, Labels, One, cleared, filled, given, numbered, short, skipped, stopped}
 use Rattle.labels.specs.Visits.{Flooded, MARK}
 use Rattle.laws.proofs.Bools.{which}
 use Rattle.laws.proofs.Counts.{count-most, count-step}
@@ -88,19 +88,19 @@ pub groups-most : (ink : ℕ → Bool) (w n : ℕ) → count (first? ink (near w
 groups-most ink w n = count-most (first? ink (near w) n) n
 
 pub one-full : {near : ℕ → ℕ → Bool} {v s : ℕ} {l st l′ st′ : List ℕ} {r : Next} → One near v s l st l′ st′ r → r ≡ Full → length st < length l
-one-full (skip a b c) e = absurd (let z : _≡_ {A = ℕ} 0 1 = cc in omega arith)
-one-full (mark a b) e = absurd (let z : _≡_ {A = ℕ} 0 1 = cc in omega arith)
-one-full (full h) e = h
+one-full (skipped a b c) e = absurd (let z : _≡_ {A = ℕ} 0 1 = cc in omega arith)
+one-full (filled a b) e = absurd (let z : _≡_ {A = ℕ} 0 1 = cc in omega arith)
+one-full (stopped h) e = h
 
 module _ (w n : ℕ) (l₀ st₀ : List ℕ) (e : length l₀ ≡ n) where
   pub labelling-one : {s v v′ : ℕ} {l st l′ st′ : List ℕ} {r : Next} → s < length l → v + 1 < MARK → Labelling w n l₀ st₀ s v l st → One (near w) v s l st l′ st′ r → r ≡ At v′ → length l′ ≡ length l → length st′ ≡ length st → Labelling w n l₀ st₀ (s + 1) v′ l′ st′
-  labelling-one {s} {v} {v′} {l} {st} a b p (skip m f g) q x y =
+  labelling-one {s} {v} {v′} {l} {st} a b p (skipped m f g) q x y =
       let z : v ≡ v′ = cc in
       rw (f, g, ← z) (labelling-skip w n l₀ st₀ e a p m)
-  labelling-one {s} {v} {v′} a b p (mark m d) q x y =
+  labelling-one {s} {v} {v′} a b p (filled m d) q x y =
       let z : v + 1 ≡ v′ = cc in
       rw (← z) (labelling-mark w n l₀ st₀ e a b p m d x y)
-  labelling-one a b p (full h) q x y = absurd (let z : _≡_ {A = ℕ} 0 1 = cc in omega arith)
+  labelling-one a b p (stopped h) q x y = absurd (let z : _≡_ {A = ℕ} 0 1 = cc in omega arith)
 
 -- ---- the answers
 pub labels-at : {w n v : ℕ} {l st l′ : List ℕ} {r : Next} → Labels w n l st l′ r → r ≡ At v
@@ -125,8 +125,8 @@ pub answers-given : (w n m : ℕ) (l st l₁ st₁ : List ℕ) {r : Next} {v : �
 answers-given w n m l st l₁ st₁ room em a e same same-stack =
     given
     (λ ink h.
-      let q = labels-at a e ink h in
-      (ap (λ (t : List ℕ). t ++ drop n l) (is-tab n (label ink (near w) n) l₁ (same ∙ length-take-le n l room) (λ c b. q .0 c)), q .1))
+    let q = labels-at a e ink h in
+    (ap (λ (t : List ℕ). t ++ drop n l) (is-tab n (label ink (near w) n) l₁ (same ∙ length-take-le n l room) (λ c b. q .0 c)), q .1))
     (past n m st st₁ em (same-stack ∙ length-take-le m st (omega arith)))
 
 pub answers-cleared : (w n m : ℕ) (l st l₁ l₂ st₁ st₂ : List ℕ) {r : Next} → n ≤ length l → m ≡ min n (length st)

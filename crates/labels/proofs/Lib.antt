@@ -2,3 +2,4 @@ pub mod VisitLaws
 pub mod Window
 pub mod FillLaws
 pub mod Labellings
+pub mod InkCells

@@ -12,6 +12,7 @@ use lib.Dec.{eqb}
 use lib.ListN.{getD, length, length-set, set}
 use lib.Seq.{getD-set-same}
 use borrow.Author.Tests.{eq-eqb, ne-eqb}
+use Rattle.labels.specs.Marks.{below}
 use Rattle.labels.specs.Visits.{Emptied, Fills, Flooded, InRow, MARK, Or, Rowed, Run, Safe, Shut, Step, at-or, fills, full-or, marks,
     on, pass, pop, push, stop, stops}
 use Rattle.laws.proofs.Bools.{at-or-below, which}
@@ -136,8 +137,8 @@ pub record Row (a b v : ℕ) (l₀ st₀ : List ℕ) (k₀ : ℕ) (l st : List �
 pub row-begin : (a b v : ℕ) (l st : List ℕ) (k : ℕ) → Row a b v l st k l st k a
 row-begin a b v l st k = record { from = omega arith; ran = stop; all = λ i h. absurd (omega arith); same = refl; same-stack = refl }
 
-pub row-end : {a b v k₀ k j : ℕ} {l₀ st₀ l st : List ℕ} → b ≤ j → Row a b v l₀ st₀ k₀ l st k j → Rowed a b v l₀ st₀ k₀ l st k
-row-end h r = record { ran = r .ran; all = λ i q. r .all i (q .0, omega (arith, q .1)) }
+pub rowed-end : {a b v k₀ k j : ℕ} {l₀ st₀ l st : List ℕ} → b ≤ j → Row a b v l₀ st₀ k₀ l st k j → Rowed a b v l₀ st₀ k₀ l st k
+rowed-end h r = record { ran = r .ran; all = λ i q. r .all i (q .0, omega (arith, q .1)) }
 
 pub row-turn : {a b v k₀ k j k′ : ℕ} {l₀ st₀ l st l′ st′ : List ℕ} → (v ≡ MARK → ⊥) → Row a b v l₀ st₀ k₀ l st k j → j < b → j < length l → Step v j l st k l′ st′ k′ → Row a b v l₀ st₀ k₀ l′ st′ k′ (j + 1)
 row-turn {v = v} {j = j} f r h m t = record {

@@ -18,9 +18,9 @@ Inked ink l = (c : ℕ) → getD l c 0 ≡ cond (ink c) MARK 0
 
 -- The cell s, after v labels: no mark, or its group gets the next label, or the stack was full.
 pub data One (near : ℕ → ℕ → Bool) (v s : ℕ) (l st l′ st′ : List ℕ) : Next → Type 0 where
-  skip : (getD l s 0 ≡ MARK → ⊥) → l′ ≡ l → st′ ≡ st → One near v s l st l′ st′ (At v)
-  mark : getD l s 0 ≡ MARK → Flooded near (v + 1) s l st l′ st′ → One near v s l st l′ st′ (At (v + 1))
-  full : length st < length l → One near v s l st l′ st′ Full
+  skipped : (getD l s 0 ≡ MARK → ⊥) → l′ ≡ l → st′ ≡ st → One near v s l st l′ st′ (At v)
+  filled : getD l s 0 ≡ MARK → Flooded near (v + 1) s l st l′ st′ → One near v s l st l′ st′ (At (v + 1))
+  stopped : length st < length l → One near v s l st l′ st′ Full
 
 -- A grid of n cells in rows of w that fills the list l: each cell gets its label, and v is how many there are; or a push found the stack full, which happens
 -- only where it has fewer places than there are cells.

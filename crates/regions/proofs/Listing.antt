@@ -37,8 +37,8 @@ none = record { label = 0; cells = 0; x0 = 0; y0 = 0; x1 = 0; y1 = 0 }
 
 pub listing-begin : (labels : List ℕ) (m cw ch w h : ℕ)
     → Listing labels m cw ch w h 0
-      (record { label = 0; cells = 0; x0 = 0; y0 = 0; x1 = 0; y1 = 0 } ∷ record { label = 0; cells = 0; x0 = 0; y0 = 0; x1 = 0; y1 = 0 }
-      ∷ record { label = 0; cells = 0; x0 = 0; y0 = 0; x1 = 0; y1 = 0 } ∷ record { label = 0; cells = 0; x0 = 0; y0 = 0; x1 = 0; y1 = 0 } ∷ [])
+    (record { label = 0; cells = 0; x0 = 0; y0 = 0; x1 = 0; y1 = 0 } ∷ record { label = 0; cells = 0; x0 = 0; y0 = 0; x1 = 0; y1 = 0 }
+    ∷ record { label = 0; cells = 0; x0 = 0; y0 = 0; x1 = 0; y1 = 0 } ∷ record { label = 0; cells = 0; x0 = 0; y0 = 0; x1 = 0; y1 = 0 } ∷ [])
 unfolding noRegion
 listing-begin labels m cw ch w h = record { many = refl; done = λ j b. absurd (omega arith); rest = λ j b. at j }
   where
@@ -52,10 +52,10 @@ listing-begin labels m cw ch w h = record { many = refl; done = λ j b. absurd (
 pub listing-turn : {labels : List ℕ} {m cw ch w h i : ℕ} {list : List Region} {r : Region} → Listing labels m cw ch w h i list → i < 4
     → r ≡ regionIn labels cw ch w h (keptAt (sizeIn labels) m i) → Listing labels m cw ch w h (i + 1) (set list i r)
 listing-turn {labels} {m} {cw} {ch} {w} {h} {i} {list} {r} q few is = record {
-    many = length-set list i r ∙ q .many;
-    done = λ j b. go j (ℕ-discrete j i) b;
-    rest = λ j b. getD-set-other list i j r noRegion (omega arith) ∙ q .rest j (omega arith)
-  }
+  many = length-set list i r ∙ q .many;
+  done = λ j b. go j (ℕ-discrete j i) b;
+  rest = λ j b. getD-set-other list i j r noRegion (omega arith) ∙ q .rest j (omega arith);
+}
   where
     go : (j : ℕ) → Dec (j ≡ i) → j < i + 1 → getD (set list i r) j noRegion ≡ regionIn labels cw ch w h (keptAt (sizeIn labels) m j)
     go j (yes e) b = rw e (getD-set-same list i r noRegion (omega (arith, q .many)) ∙ is)
@@ -118,8 +118,13 @@ module _ (p : Plane) (w h : ℕ) (labels : List ℕ) (is : labels ≡ tab (cells
   region-listed i =
       let a = keptAt (groupSize p w h) (groupsOf p w h) i in
       rw (kept-at-ext (sizeIn labels) (groupSize p w h) (groupsOf p w h) (λ j b. size-listed j) i)
-      (rw (size-listed a, low-listed (suc a) (cells8 w) (columnOf (cells8 w)), low-listed (suc a) (cells8 h) (rowOf (cells8 w)),
-      high-listed (suc a) (columnOf (cells8 w)), high-listed (suc a) (rowOf (cells8 w))))
+      (rw (
+        size-listed a,
+        low-listed (suc a) (cells8 w) (columnOf (cells8 w)),
+        low-listed (suc a) (cells8 h) (rowOf (cells8 w)),
+        high-listed (suc a) (columnOf (cells8 w)),
+        high-listed (suc a) (rowOf (cells8 w)),
+      ))
 
   kept-listed : keptOf (sizeIn labels) (groupsOf p w h) ≡ keptCount p w h
   unfolding keptCount

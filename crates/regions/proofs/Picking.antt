@@ -45,10 +45,10 @@ beats-no s a b t = go (decLt a (length s))
 
 pub upto-turn : {s : List ℕ} {p k a a′ : ℕ} → k < length s → UpTo s p k a → Turn s p a k a′ → UpTo s p (k + 1) a′
 upto-turn {s} {p} {k} {a} h u (took w q t) = record {
-    most = omega arith;
-    real = λ z. (w, q);
-    all = λ c d v y. (h, not-ahead c (at-or-below c k (rw add-one at d)) v y)
-  }
+  most = omega arith;
+  real = λ z. (w, q);
+  all = λ c d v y. (h, not-ahead c (at-or-below c k (rw add-one at d)) v y);
+}
   where
     not-ahead : (c : ℕ) → (c ≡ k) ⊎ (c < k) → want (binsOf s) c ≡ true → behind s p c ≡ true → ahead (binsOf s) c k ≡ false
     not-ahead c (inl e) v y = ap (λ (x : ℕ). ahead (binsOf s) x k) e ∙ order (binsOf s) .irr k
@@ -56,10 +56,10 @@ upto-turn {s} {p} {k} {a} h u (took w q t) = record {
         let z = u .all c l v y in
         ⊎-elim (λ x. absurd (clash (order (binsOf s) .trans c k a x (beats-yes s a k t (z .0))) (z .1))) (λ x. x) (which (ahead (binsOf s) c k))
 upto-turn {s} {p} {k} {a} h u (left f) = record {
-    most = u .most;
-    real = u .real;
-    all = λ c d v y. ⊎-elim (λ e. rw (← e) at (beats-no s a k (f (rw e at v) (rw e at y)))) (λ l. u .all c l v y) (at-or-below c k (rw add-one at d))
-  }
+  most = u .most;
+  real = u .real;
+  all = λ c d v y. ⊎-elim (λ e. rw (← e) at (beats-no s a k (f (rw e at v) (rw e at y)))) (λ l. u .all c l v y) (at-or-below c k (rw add-one at d));
+}
 
 -- After `i` of them: those before, and `p` the last of these (the length before the first).
 pub record Picking (s : List ℕ) (i p : ℕ) (at : List ℕ) : Type 0 where
@@ -82,19 +82,19 @@ found-place s i p a at k f h = go (ℕ-discrete i 0)
   where
     go : Dec (i ≡ 0) → place (want (binsOf s)) (ahead (binsOf s)) (length s) a ≡ i
     go (yes e) = first-place (want (binsOf s)) (ahead (binsOf s)) (length s) (order (binsOf s)) a (record {
-        below = h;
-        wanted = f .real h .0;
-        meets = refl;
-        first = λ b d w q. f .all b d w (behind-start s p b (k .start e)) .1
-      }) ∙ sym e
+      below = h;
+      wanted = f .real h .0;
+      meets = refl;
+      first = λ b d w q. f .all b d w (behind-start s p b (k .start e)) .1;
+    }) ∙ sym e
     go (no e) =
         let l = k .last (omega arith) in
         next-place (want (binsOf s)) (ahead (binsOf s)) (length s) (order (binsOf s)) p a (l .0) (l .1) (record {
-            below = h;
-            wanted = f .real h .0;
-            meets = sym (behind-real s p a (l .0)) ∙ f .real h .1;
-            first = λ b d w q. f .all b d w (behind-real s p b (l .0) ∙ q) .1
-          }) ∙ l .2
+          below = h;
+          wanted = f .real h .0;
+          meets = sym (behind-real s p a (l .0)) ∙ f .real h .1;
+          first = λ b d w q. f .all b d w (behind-real s p b (l .0) ∙ q) .1;
+        }) ∙ l .2
 
 pub picking-begin : (s at : List ℕ) → Picking s 0 (length s) at
 picking-begin s at = record { done = λ j h. absurd (omega arith); inside = λ j h. absurd (omega arith); start = λ e. refl; last = λ h. absurd (omega arith) }
@@ -102,11 +102,11 @@ picking-begin s at = record { done = λ j h. absurd (omega arith); inside = λ j
 pub picking-turn : {s at at′ : List ℕ} {i p a : ℕ} → Picking s i p at → Found s p a → a < length s → ((j : ℕ) → j < i → getD at′ j 0 ≡ getD at j 0) → getD at′ i 0 ≡ a → Picking s (i + 1) a at′
 unfolding keptAt
 picking-turn {s} {at} {at′} {i} {p} {a} k f h old new = record {
-    done = λ j d. ⊎-elim (λ e. ap (λ (x : ℕ). getD at′ x 0) e ∙ (new ∙ (sym (nth-is (want (binsOf s)) (ahead (binsOf s)) (length s) (order (binsOf s)) a i h (f .real h .0) (found-place s i p a at k f h)) ∙ ap (λ (x : ℕ). nth (want (binsOf s)) (ahead (binsOf s)) (length s) x) (sym e)))) (λ l. old j l ∙ k .done j l) (at-or-below j i (rw add-one at d));
-    inside = λ j d. ⊎-elim (λ e. omega (arith, new, ap (λ (x : ℕ). getD at′ x 0) e)) (λ l. omega (arith, old j l, k .inside j l)) (at-or-below j i (rw add-one at d));
-    start = λ e. absurd (omega arith);
-    last = λ z. (h, f .real h .0, omega (arith, found-place s i p a at k f h))
-  }
+  done = λ j d. ⊎-elim (λ e. ap (λ (x : ℕ). getD at′ x 0) e ∙ (new ∙ (sym (nth-is (want (binsOf s)) (ahead (binsOf s)) (length s) (order (binsOf s)) a i h (f .real h .0) (found-place s i p a at k f h)) ∙ ap (λ (x : ℕ). nth (want (binsOf s)) (ahead (binsOf s)) (length s) x) (sym e)))) (λ l. old j l ∙ k .done j l) (at-or-below j i (rw add-one at d));
+  inside = λ j d. ⊎-elim (λ e. omega (arith, new, ap (λ (x : ℕ). getD at′ x 0) e)) (λ l. omega (arith, old j l, k .inside j l)) (at-or-below j i (rw add-one at d));
+  start = λ e. absurd (omega arith);
+  last = λ z. (h, f .real h .0, omega (arith, found-place s i p a at k f h));
+}
 
 -- none left: there are `i` in all
 pub picking-out : {s at : List ℕ} {i p a : ℕ} → Picking s i p at → Found s p a → a ≡ length s → count (want (binsOf s)) (length s) ≡ i
@@ -114,6 +114,7 @@ picking-out {s} {at} {i} {p} {a} k f e = go (ℕ-discrete i 0)
   where
     none : (b : ℕ) → b < length s → want (binsOf s) b ≡ true → behind s p b ≡ false
     none b h w = ⊎-elim (λ t. absurd (omega (arith, f .all b h w t .0))) (λ t. t) (which (behind s p b))
+
     go : Dec (i ≡ 0) → count (want (binsOf s)) (length s) ≡ i
     go (yes z) = count-none (want (binsOf s)) (length s) (λ b h. ⊎-elim (λ w. absurd (clash (behind-start s p b (k .start z)) (none b h w))) (λ w. w) (which (want (binsOf s) b))) ∙ sym z
     go (no z) =
@@ -130,11 +131,11 @@ picking-full {s} {at} {p} k =
 pub picked-out : {s at : List ℕ} {i p a : ℕ} → Picking s i p at → Found s p a → a ≡ length s → i < 4 → Picked s i at
 unfolding keptOf
 picked-out {s} {at} {i} k f e few = record {
-    many = omega (arith, picking-out k f e);
-    which = k .done;
-    few = omega arith;
-    inside = k .inside
-  }
+  many = omega (arith, picking-out k f e);
+  which = k .done;
+  few = omega arith;
+  inside = k .inside;
+}
 
 pub picked-full : {s at : List ℕ} {i p : ℕ} → Picking s i p at → i ≡ 4 → Picked s 4 at
 unfolding keptOf

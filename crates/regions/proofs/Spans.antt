@@ -37,7 +37,7 @@ module _ (labels : List ℕ) (l w h : ℕ) where
             left = omega (arith, f .0, q .left, ex, lowest-yes (has labels l) (columnOf w) w k t);
             top = omega (arith, f .1, q .top, ey, lowest-yes (has labels l) (rowOf w) h k t);
             right = omega (arith, f .2, q .right, ex, highest-yes (has labels l) (columnOf w) k t);
-            bottom = omega (arith, f .3, q .bottom, ey, highest-yes (has labels l) (rowOf w) k t)
+            bottom = omega (arith, f .3, q .bottom, ey, highest-yes (has labels l) (rowOf w) k t);
           }
       go (inr t) =
           let f = g .no t in
@@ -45,17 +45,17 @@ module _ (labels : List ℕ) (l w h : ℕ) where
             left = omega (arith, f .0, q .left, lowest-no (has labels l) (columnOf w) w k t);
             top = omega (arith, f .1, q .top, lowest-no (has labels l) (rowOf w) h k t);
             right = omega (arith, f .2, q .right, highest-no (has labels l) (columnOf w) k t);
-            bottom = omega (arith, f .3, q .bottom, highest-no (has labels l) (rowOf w) k t)
+            bottom = omega (arith, f .3, q .bottom, highest-no (has labels l) (rowOf w) k t);
           }
 
   pub boxed-small : {k x₀ y₀ x₁ y₁ : ℕ} → 0 < w → k ≤ h * w → Boxed labels l w h k x₀ y₀ x₁ y₁ → Small w h x₀ y₀ x₁ y₁
   unfolding columnOf rowOf
   boxed-small {k} some below q = record {
-      left = omega (arith, q .left, lowest-le (has labels l) (columnOf w) w k);
-      top = omega (arith, q .top, lowest-le (has labels l) (rowOf w) h k);
-      right = omega (arith, q .right, highest-le (has labels l) (columnOf w) w k (λ c d. mod-lt c some));
-      bottom = omega (arith, q .bottom, highest-le (has labels l) (rowOf w) h k (λ c d. div-lt-iff-lt-mul some .1 (omega arith)))
-    }
+    left = omega (arith, q .left, lowest-le (has labels l) (columnOf w) w k);
+    top = omega (arith, q .top, lowest-le (has labels l) (rowOf w) h k);
+    right = omega (arith, q .right, highest-le (has labels l) (columnOf w) w k (λ c d. mod-lt c some));
+    bottom = omega (arith, q .bottom, highest-le (has labels l) (rowOf w) h k (λ c d. div-lt-iff-lt-mul some .1 (omega arith)));
+  }
 
 -- The box of the first k cells, of which k is in column x and row y.
 pub record Spanning (labels : List ℕ) (l w h k x y x₀ y₀ x₁ y₁ : ℕ) : Type 0 where

@@ -44,7 +44,7 @@ loop-holds c =
       done = begin;
       safe = step-safe (e .args .v) (λ p. omega (arith, e .pre)) (or-at (r .ensures) (c .before .first .given .1)) (safe-begin _ _);
       size = omega (arith, r .kept .0, e .pre);
-      same-stack = refl
+      same-stack = refl;
     }
 
 sub-k : tie.Need-sub-k Inv-loop μ-loop
@@ -116,7 +116,7 @@ returns-3 c =
       mid-stack = r .last .1 .0;
       depth = c .before .before .before .first .given .0 .0;
       entry = or-at (r .ensures) (c .before .before .before .first .given .1);
-      rest = rw z at (q .inv .done)
+      rest = rw z at (q .inv .done);
     })
 
 pub flood-spec : {M : Type 1} → statement M

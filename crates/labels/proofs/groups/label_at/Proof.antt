@@ -1,7 +1,7 @@
 use mathlib.Core.Path.{refl}
 use borrow.Author.Needs.{needs}
 use Rattle.labels.proofs.VisitLaws.{fills-no, fills-yes}
-use Rattle.labels.specs.Labelling.{full, mark, skip}
+use Rattle.labels.specs.Labelling.{filled, skipped, stopped}
 use Rattle.labels.proofs.groups.label_at.Statement.{statement}
 use Rattle.labels.proofs.groups.label_at.Tie as tie
 
@@ -12,7 +12,7 @@ slice-read-if1 : tie.Need-slice-read-if1
 slice-read-if1 c = search needs
 
 returns : tie.Need-returns
-returns c = skip (c .if1 .taken) refl refl
+returns c = skipped (c .if1 .taken) refl refl
 
 add-flood : tie.Need-add-flood
 add-flood c = search needs
@@ -30,7 +30,7 @@ same-length-2 : tie.Need-same-length-2
 same-length-2 c = search needs
 
 returns-2 : tie.Need-returns-2
-returns-2 c = mark (c .before .before .before .before .before .before .before .before .if1 .left) (fills-yes (c .before .before .before .before .before .flood .ensures) (c .if2 .taken))
+returns-2 c = filled (c .before .before .before .before .before .before .before .before .if1 .left) (fills-yes (c .before .before .before .before .before .flood .ensures) (c .if2 .taken))
 
 same-length-3 : tie.Need-same-length-3
 same-length-3 c = search needs
@@ -39,7 +39,7 @@ same-length-4 : tie.Need-same-length-4
 same-length-4 c = search needs
 
 returns-3 : tie.Need-returns-3
-returns-3 c = full (fills-no (c .before .before .before .before .before .flood .ensures) (c .if2 .left))
+returns-3 c = stopped (fills-no (c .before .before .before .before .before .flood .ensures) (c .if2 .left))
 
 pub label-at-spec : {M : Type 1} → statement M
 label-at-spec =

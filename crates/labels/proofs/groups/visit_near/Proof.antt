@@ -42,7 +42,7 @@ loop-holds c =
       left = c .before .before .before .low .ensures;
       right = c .before .before .high .ensures;
       bottom = c .before .high2 .ensures;
-      rows = rw (c .low2 .ensures) (rows-begin _ _ _ _ _ _ _ _ _)
+      rows = rw (c .low2 .ensures) (rows-begin _ _ _ _ _ _ _ _ _);
     }
 
 mul-visit-row : tie.Need-mul-visit-row Inv-loop μ-loop
@@ -118,13 +118,13 @@ loop-again c =
       right = q .inv .right;
       bottom = q .inv .bottom;
       rows =
-        rows-turn
-        (λ p. omega (arith, e .pre))
-        (q .inv .rows)
-        (row-near (e .args .w) (e .args .i) (q .g) _ _ (q .inv .left) (q .inv .right) (omega (arith, q .inv .rows .from)) (omega (arith, q .inv .bottom)))
-        (t .ran)
-        (t .all)
-        (r .kept .1 .0)
+          rows-turn
+          (λ p. omega (arith, e .pre))
+          (q .inv .rows)
+          (row-near (e .args .w) (e .args .i) (q .g) _ _ (q .inv .left) (q .inv .right) (omega (arith, q .inv .rows .from)) (omega (arith, q .inv .bottom)))
+          (t .ran)
+          (t .all)
+          (r .kept .1 .0);
     }
 
 same-length-3 : tie.Need-same-length-3 Inv-loop μ-loop

@@ -1,7 +1,7 @@
 use Prim.Native.Nat.{_-_}
 use native.Mathlib.Omega.{arith}
 use borrow.Author.Needs.{needs}
-use Rattle.labels.proofs.VisitLaws.{Row, or-at, or-full, row-begin, row-end, row-turn, run-safe}
+use Rattle.labels.proofs.VisitLaws.{Row, or-at, or-full, row-begin, row-turn, rowed-end, run-safe}
 use Rattle.labels.specs.Visits.{InRow, at-or, full-or}
 use Rattle.labels.proofs.groups.visit_row.Statement.{statement}
 use Rattle.labels.proofs.groups.visit_row.Tie as tie
@@ -57,7 +57,7 @@ same-length-4 : tie.Need-same-length-4 Inv-loop μ-loop
 same-length-4 c = search needs
 
 returns-2 : tie.Need-returns-2 Inv-loop μ-loop
-returns-2 c = at-or (row-end (omega arith) (c .before .loop .inv))
+returns-2 c = at-or (rowed-end (omega arith) (c .before .loop .inv))
 
 pub visit-row-spec : {M : Type 1} → statement M
 visit-row-spec =

@@ -38,10 +38,10 @@ loop-less c = search needs
 loop-again : tie.Need-loop-again Inv-loop μ-loop
 loop-again c =
     let q = c .before .before .before .loop in
-    let r = c .before .first-behind in
-    ( picking-turn (q .inv .0) (r .ensures) (omega (arith, r .ensures .most)) (λ j h. getD-set-other (q .at) (q .i) j (r .result) 0 (omega arith)) (getD-set-same (q .at) (q .i) (r .result) 0 (omega arith)),
+    let r = c .before .first-behind in (
+      picking-turn (q .inv .0) (r .ensures) (omega (arith, r .ensures .most)) (λ j h. getD-set-other (q .at) (q .i) j (r .result) 0 (omega arith)) (getD-set-same (q .at) (q .i) (r .result) 0 (omega arith)),
       omega arith,
-      length-set (q .at) (q .i) (r .result) ∙ q .inv .2
+      length-set (q .at) (q .i) (r .result) ∙ q .inv .2,
     )
 
 returns-2 : tie.Need-returns-2 Inv-loop μ-loop

@@ -19,9 +19,9 @@ clear-requires c κs = search needs
 loop-holds : tie.Need-loop-holds Inv-loop μ-loop
 loop-holds c =
     let p = c .before .before .before .before .before .before in
-    let z = c .before .before .clear in
-    ( tallied-begin (now (p .args .labels)) (now (p .args .sizes)) (z .ensures)
-    , omega arith
+    let z = c .before .before .clear in (
+      tallied-begin (now (p .args .labels)) (now (p .args .sizes)) (z .ensures),
+      omega arith,
     )
 
 mul-bump : tie.Need-mul-bump Inv-loop μ-loop

@@ -69,9 +69,9 @@ loop-again c =
     let l = now (a .labels) in
     let m = length (now (a .sizes)) in
     let which : getD (c .before .before .before .before .before .pick .result .at) (q .i) 0 ≡ keptAt (sizeIn l) m (q .i) =
-        p .which (q .i) (omega arith) ∙ kept-at-ext (binsOf (now (a .sizes))) (sizeIn l) m (e .pre .1 .1) (q .i) in
-    ( listing-turn (q .inv .0) (omega (arith, p .few)) (c .region-of .ensures ∙ ap (regionIn l (a .w) (a .h) (a .width) (a .height)) which)
-    , omega arith
+    p .which (q .i) (omega arith) ∙ kept-at-ext (binsOf (now (a .sizes))) (sizeIn l) m (e .pre .1 .1) (q .i) in (
+      listing-turn (q .inv .0) (omega (arith, p .few)) (c .region-of .ensures ∙ ap (regionIn l (a .w) (a .h) (a .width) (a .height)) which),
+      omega arith,
     )
 
 returns : tie.Need-returns Inv-loop μ-loop
