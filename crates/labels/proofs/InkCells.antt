@@ -71,12 +71,12 @@ half c i l = omega arith
 pub inside-cell : {s : List ℕ} {w h lx ly : ℕ} → Picture s w h → (cx cy : ℕ) → 8 * cx < w → 8 * cy < h → lx ≡ span8 w cx → ly ≡ span8 h cy
     → Inside s w (8 * cx) (8 * cy) lx ly
 inside-cell {s} {w} {h} {lx} {ly} p cx cy lw lh ex ey = record {
-    wide = omega arith;
-    high = omega arith;
-    right = omega arith;
-    low = omega (arith, p .h-high);
-    bottom = omega (arith, mul-le-mul-right {m = 8 * cy + ly} {n = h} w (omega arith), mul-comm w h, p .count)
-  }
+  wide = omega arith;
+  high = omega arith;
+  right = omega arith;
+  low = omega (arith, p .h-high);
+  bottom = omega (arith, mul-le-mul-right {m = 8 * cy + ly} {n = h} w (omega arith), mul-comm w h, p .count);
+}
 
 pub cell-ink-is : {s grid : List ℕ} {w h : ℕ} → Levelled s w h grid → (cx cy : ℕ) {t lx ly : ℕ} → 8 * cx < w → 8 * cy < h
     → t ≡ plane (cells w) grid (cx / 2) (cy / 2) → lx ≡ span8 w cx → ly ≡ span8 h cy

@@ -13,8 +13,29 @@ use lib.ListN.{getD, length, length-set, set}
 use lib.Seq.{getD-set-same}
 use borrow.Author.Tests.{eq-eqb, ne-eqb}
 use Rattle.labels.specs.Marks.{below}
-use Rattle.labels.specs.Visits.{Emptied, Fills, Flooded, InRow, MARK, Or, Rowed, Run, Safe, Shut, Step, at-or, fills, full-or, marks,
-    on, pass, pop, push, stop, stops}
+use Rattle.labels.specs.Visits.{
+  Emptied,
+  Fills,
+  Flooded,
+  InRow,
+  MARK,
+  Or,
+  Rowed,
+  Run,
+  Safe,
+  Shut,
+  Step,
+  at-or,
+  fills,
+  full-or,
+  marks,
+  on,
+  pass,
+  pop,
+  push,
+  stop,
+  stops,
+}
 use Rattle.laws.proofs.Bools.{at-or-below, which}
 use Rattle.laws.proofs.Stores.{at-set}
 use Rattle.regions.specs.Labels.{near}

@@ -14,7 +14,6 @@ use Rattle.regions.specs.Cells.{cells8, cellsOf, labelAt, groupsOf}
 use Rattle.regions.specs.Kept.{keptCount, keptLabel, keptCells}
 use Rattle.regions.specs.declared.answer.Kept.{Kept}
 use Rattle.regions.specs.declared.answer.PictureAnswer.{PictureAnswer}
-use Rattle.regions.specs.declared.answer.PictureAnswer.the-variants as answer
 use Rattle.regions.specs.declared.answer.Region.{Region}
 
 -- ---- the checks
@@ -72,20 +71,23 @@ keptRegions p w h = record {
 
 -- ---- the answer, and the lent lists
 
--- The number of an answer: 0 where the regions are given.
-abbrev pub numberOf : PictureAnswer → ℕ
-numberOf (answer.Regions k) = 0
-numberOf (answer.Refused n) = n
+-- No regions: what a refusal has beside its number.
+unfoldable pub noRegions : Kept
+noRegions = record { all = 0; kept = 0; list = noRegion ∷ noRegion ∷ noRegion ∷ noRegion ∷ [] }
+
+-- A refusal by its number; the answer by the number of the refusal, 0 where there is none.
+abbrev pub refusedBy : ℕ → PictureAnswer
+refusedBy n = record { refused = n; regions = noRegions }
 
 abbrev pub answerBy : ℕ → Kept → PictureAnswer
-answerBy zero k = answer.Regions k
-answerBy (suc n) k = answer.Refused (suc n)
+answerBy zero k = record { refused = 0; regions = k }
+answerBy (suc n) k = refusedBy (suc n)
 
 -- The answer for a picture s and lent lists of so many places.
 abbrev pub pictureAnswer : List ℕ → ℕ → ℕ → ℕ → ℕ → ℕ → PictureAnswer
 pictureAnswer s w h grid labels stack = answerBy (checkGrids w h (length s) grid labels stack) (keptRegions (plane w s) w h)
 
--- By the number of the answer: the level grid after the call. It is finished at refusal 4 too.
+-- By the answer's number n: the level grid after the call. It is finished at refusal 4 too.
 abbrev pub levelsAfter : ℕ → List ℕ → ℕ → ℕ → List ℕ → List ℕ
 levelsAfter n s w h old = cond (eqb n 0 || eqb n 4) (drawn (cells w) (cells h) (level (plane w s) w h) old) old
 

@@ -19,8 +19,8 @@ pub struct Kept {
     pub list: [Region; 4],
 }
 
-// The answer of the picture door: the regions, or the number of a refusal, 1 to 4.
-pub enum PictureAnswer {
-    Regions(Kept),
-    Refused(u32),
+// The answer of the picture door: 0 and the regions, or the number of a refusal, 1 to 4, and none.
+pub struct PictureAnswer {
+    pub refused: u32,
+    pub regions: Kept,
 }

@@ -56,9 +56,13 @@ add-n : tie.Need-add-n Inv-loop μ-loop
 add-n c =
     let at = c .before .before .before in
     let a = at .before .before .args in
-    omega
-    (arith, c .row-ink .ensures, at .loop .inv .1, box-le (plane (a .w) (now (a .s))) (a .x0) (a .y0) (a .lx) (at .loop .j) (a .t),
-    mul-le-mul {n₁ = at .loop .j} {m₁ = a .lx} {n₂ = 8} {m₂ = 8} (omega arith) (omega arith))
+    omega (
+      arith,
+      c .row-ink .ensures,
+      at .loop .inv .1,
+      box-le (plane (a .w) (now (a .s))) (a .x0) (a .y0) (a .lx) (at .loop .j) (a .t),
+      mul-le-mul {n₁ = at .loop .j} {m₁ = a .lx} {n₂ = 8} {m₂ = 8} (omega arith) (omega arith),
+    )
 
 add-j : tie.Need-add-j Inv-loop μ-loop
 add-j c = omega arith

@@ -52,7 +52,7 @@ returns c =
     let a = p .args in
     c .box-ink .ensures
     ∙ cell-ink-is (p .pre .0) (a .cx) (a .cy) (p .pre .1 .0) (p .pre .1 .1) (rw (c .before .before .before .before .before .before .cells-of .ensures)) (sym (c .before .before .if1 .taken) ∙ c .before .before .before .before .span-of .ensures)
-      (sym (c .before .if2 .taken) ∙ c .before .before .before .span-of2 .ensures)
+    (sym (c .before .if2 .taken) ∙ c .before .before .before .span-of2 .ensures)
 
 mul-box-ink-3 : tie.Need-mul-box-ink-3
 mul-box-ink-3 c = search needs
