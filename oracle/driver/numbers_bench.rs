@@ -17,7 +17,7 @@ mod both {
         fn lcr_solve(a: *const f64, la: usize, b: *const f64, lb: usize, n: usize, out: *mut f64, m: usize) -> u8;
         fn lcr_least_squares(a: *const f64, la: usize, b: *const f64, lb: usize, n: usize, out: *mut f64, m: usize) -> u8;
         fn lcr_from_quad(s: *const f32, ls: usize, d: *const f32, ld: usize, out: *mut f64, m: usize) -> u8;
-        fn lcr_apply(t: *const f64, lt: usize, uv: *mut f32, n: usize) -> u8;
+        fn lcr_apply(t: *const f64, lt: usize, uv: *const f32, n: usize, sums: *mut f32, m: usize) -> u8;
     }
 
     /// The least time a call of each side, over rounds of `reps` calls.
@@ -84,21 +84,20 @@ mod both {
             let t = Transform::from_quad(pts(&src), pts(&quads[0])).unwrap().with_radial(100.0, 100.0, kappa);
             let flat: Vec<f64> = t.m.iter().chain(&t.radial).copied().collect();
             let uv: Vec<f32> = (0..2000).map(|_| r.unit() as f32 * 21.0).collect();
-            let (mut p, mut q) = (uv.clone(), uv.clone());
-            // a thousand places a round, the list copied on both sides
+            // the sum of each pixel's coordinates, so that both are used, a thousand places a round
+            let (mut p, mut q) = (vec![0f32; 1000], vec![0f32; 1000]);
             let per = 1000.0;
             let (mut a, mut b) = (f64::MAX, f64::MAX);
             for _ in 0..400 {
-                p.copy_from_slice(&uv);
                 let s = Instant::now();
-                for c in black_box(&mut p).chunks_exact_mut(2) {
+                for (c, o) in black_box(&uv).chunks_exact(2).zip(&mut p) {
                     let (x, y) = t.apply(c[0], c[1]);
-                    (c[0], c[1]) = (x, y);
+                    *o = x + y;
                 }
+                black_box(&mut p);
                 a = a.min(s.elapsed().as_secs_f64());
-                q.copy_from_slice(&uv);
                 let s = Instant::now();
-                black_box(unsafe { lcr_apply(flat.as_ptr(), 11, black_box(q.as_mut_ptr()), q.len()) });
+                black_box(unsafe { lcr_apply(flat.as_ptr(), 11, black_box(uv.as_ptr()), uv.len(), q.as_mut_ptr(), q.len()) });
                 b = b.min(s.elapsed().as_secs_f64());
             }
             assert!(p.iter().zip(&q).all(|(x, y)| x.to_bits() == y.to_bits()));

@@ -47,19 +47,15 @@ pub extern "C" fn lcr_mad_sigma(values: &[f32], out: &mut [f32]) -> u8 {
     told(math::mad_sigma(values), out)
 }
 
-// Eight numbers into a list.
+// Eight numbers into a list that has the places.
 fn hand(x: [f64; 8], out: &mut [f64]) {
+    if out.len() < 8 {
+        return;
+    }
     let mut i: usize = 0;
     while i < 8 {
-        put(out, i, x[i]);
+        out[i] = x[i];
         i += 1;
-    }
-}
-
-// A number into a place, where there is one.
-fn put(out: &mut [f64], i: usize, x: f64) {
-    if i < out.len() {
-        out[i] = x;
     }
 }
 
@@ -112,20 +108,27 @@ pub extern "C" fn lcr_from_quad(src: &[f32], dst: &[f32], out: &mut [f64]) -> u8
     }
 }
 
-// The places of `uv`, u and v by turns, replaced by their pixels.
-fn apply_all(t: Transform, uv: &mut [f32]) {
+// The sum of the coordinates of each place's pixel; u and v of the places alternate.
+fn apply_all(t: Transform, uv: &[f32], sums: &mut [f32]) {
     let mut i: usize = 0;
-    while i < uv.len() / 2 {
-        let p = t.apply(uv[2 * i], uv[2 * i + 1]);
-        uv[2 * i] = p.x;
-        uv[2 * i + 1] = p.y;
+    while i < sums.len() {
+        sums[i] = sum(t, uv, i);
         i += 1;
     }
 }
 
-// The same by the transform whose eleven numbers are given.
+// That of one place; 0 past the last.
+fn sum(t: Transform, uv: &[f32], i: usize) -> f32 {
+    if uv.len() / 2 <= i {
+        return 0.0;
+    }
+    let p = t.apply(uv[2 * i], uv[2 * i + 1]);
+    p.x + p.y
+}
+
+// The sum of the coordinates of each pixel, by the transform whose eleven numbers are given.
 #[no_mangle]
-pub extern "C" fn lcr_apply(t: &[f64], uv: &mut [f32]) -> u8 {
+pub extern "C" fn lcr_apply(t: &[f64], uv: &[f32], sums: &mut [f32]) -> u8 {
     if t.len() < 11 {
         return 255;
     }
@@ -142,6 +145,6 @@ pub extern "C" fn lcr_apply(t: &[f64], uv: &mut [f32]) -> u8 {
         cy: t[9],
         kappa: t[10],
     };
-    apply_all(whole, uv);
+    apply_all(whole, uv, sums);
     0
 }

@@ -8,7 +8,7 @@ use lib.Dec.{leb, eqb}
 use lib.Ieee.{Float}
 use lib.ListN.{length, getD}
 use Rattle.lcr_core.specs.Version.{isVersion, positionsOf}
-use Rattle.lcr_core.specs.Doors.{orRefuse}
+use Rattle.laws.specs.Check.{orRefuse}
 use Rattle.marks.specs.Pose.{countsOf}
 use Rattle.marks.specs.Correlate.{bestOf, score}
 use Rattle.marks.specs.Classify.{lights}
