@@ -13,5 +13,5 @@ poses-moved =
       counts = λ v is g old new many m r reversed few. counts-moved v g old new m r reversed few;
       moved = λ v is g old many. marks-moved v g old many;
       only = λ v is g old new other many m o. marks-only v g old new other many m o;
-      steps = λ v is g h old mid new first second. marks-steps v g h old mid new first second
+      steps = λ v is g h old mid new first second. marks-steps v g h old mid new first second;
     }

@@ -6,19 +6,19 @@
 -- example is its own mirror image and its quad is not: more than one pair of its hull's vertices is farthest apart.
 use mathlib.Core.Path.{_≡_}
 use mathlib.Core.Logic.{_↔_}
-use mathlib.Core.Bool.{Bool, true}
+use mathlib.Core.Bool.{true}
 use mathlib.Core.List.{List}
-use Prim.Native.Nat.{ℕ, _+_, _*_, _≤_, _<_}
+use Prim.Native.Nat.{ℕ, _*_, _≤_, _<_}
 use lib.ListN.{length, getD}
 use Rattle.laws.specs.Plane.{Plane, plane}
-use Rattle.laws.specs.Move.{Move, wideOf, highOf, placeOf, Box, boxOf, movedBytes}
+use Rattle.laws.specs.Move.{Move, wideOf, highOf, placeOf, boxOf, movedBytes}
 use Rattle.whole.specs.Points.{Pt, Rot, NoDup, Clockwise, Starts}
 use Rattle.whole.specs.Quad.{Far, OneTop}
+use Rattle.whole.specs.Moves.{often, pointOf, movedRound}
 use Rattle.levels.specs.Level.{level, inkAt}
 use Rattle.regions.specs.Cells.{cells8, cell, inkCell, labelAt, groupsOf, groupSize}
 use Rattle.regions.specs.Kept.{keptCount, keptLabel, keptCells}
 use Rattle.regions.specs.Boxes.{regionBox}
-use Rattle.whole.specs.Moves.{often, pointOf, movedRound}
 use Rattle.hull.specs.Points.{ptsOf}
 use Rattle.hull.specs.Hull.{hullPoints}
 use Rattle.hull.specs.Quad.{quadPoints}
@@ -26,6 +26,7 @@ use Rattle.boundary.specs.Boundary.{outlineOf}
 use Rattle.marks.specs.Claims.{PosesMoved}
 
 -- ---- what is taken
+
 -- A picture with sides that are multiples of 16, at most 1,024: one byte a pixel, row by row.
 pub record Taken (W H : ℕ) (s : List ℕ) : Type 0 where
   pub wide : 1 ≤ W
@@ -45,28 +46,28 @@ NoTies p w h =
 module _ (m : Move) (W H : ℕ) (p p′ : Plane) where
   abbrev pub w : ℕ
   w = 16 * W
+
   abbrev pub h : ℕ
   h = 16 * H
+
   abbrev pub w′ : ℕ
   w′ = wideOf m w h
+
   abbrev pub h′ : ℕ
   h′ = highOf m w h
 
-  -- Where level cell, pixel and region cell (x, y) go.
-  abbrev pub levelTo : ℕ → ℕ → ℕ × ℕ
-  levelTo x y = placeOf m W H x y
-  abbrev pub pixelTo : ℕ → ℕ → ℕ × ℕ
-  pixelTo x y = placeOf m w h x y
+  -- Where region cell (x, y) goes.
   abbrev pub cellTo : ℕ → ℕ → ℕ × ℕ
   cellTo x y = placeOf m (cells8 w) (cells8 h) x y
 
   -- "The threshold at each moved level cell"
   unfoldable pub SameThresholds : Type 0
-  SameThresholds = (x y : ℕ) → x < W → y < H → level p′ w′ h′ (levelTo x y .0) (levelTo x y .1) ≡ level p w h x y
+  SameThresholds = (x y : ℕ) → x < W → y < H
+      → level p′ w′ h′ (placeOf m W H x y .0) (placeOf m W H x y .1) ≡ level p w h x y
 
   -- "ink or not at each moved pixel"
   unfoldable pub SameInk : Type 0
-  SameInk = (x y : ℕ) → x < w → y < h → inkAt p′ w′ h′ (pixelTo x y .0) (pixelTo x y .1) ≡ inkAt p w h x y
+  SameInk = (x y : ℕ) → x < w → y < h → inkAt p′ w′ h′ (placeOf m w h x y .0) (placeOf m w h x y .1) ≡ inkAt p w h x y
 
   -- "A cell group is the ink cells that share a label; the groups are the moved groups": which cells are ink, and which two
   -- share a label
@@ -84,25 +85,22 @@ module _ (m : Move) (W H : ℕ) (p p′ : Plane) where
   unfoldable pub SameRegion : ℕ → Type 0
   SameRegion i =
       ((x y : ℕ) → x < cells8 w → y < cells8 h
-        → (labelAt p w h x y ≡ keptLabel p w h i) ↔ (labelAt p′ w′ h′ (cellTo x y .0) (cellTo x y .1) ≡ keptLabel p′ w′ h′ i))
+      → (labelAt p w h x y ≡ keptLabel p w h i) ↔ (labelAt p′ w′ h′ (cellTo x y .0) (cellTo x y .1) ≡ keptLabel p′ w′ h′ i))
       × (regionBox p′ w′ h′ (keptLabel p′ w′ h′ i) ≡ boxOf m w h (regionBox p w h (keptLabel p w h i)))
       × (keptCells p′ w′ h′ i ≡ keptCells p w h i)
 
-  -- the boundary points of the i-th kept region of each, with runs of 4 or more
+  -- The boundary points of the i-th kept region of each picture, with runs of 4 or more, and the hulls of these.
   abbrev pub points : ℕ → List (ℕ × ℕ)
   points i = outlineOf 4 p w h (keptLabel p w h i)
+
   abbrev pub points′ : ℕ → List (ℕ × ℕ)
   points′ i = outlineOf 4 p′ w′ h′ (keptLabel p′ w′ h′ i)
 
-  -- their hulls and quads
   abbrev pub hull : ℕ → List Pt
   hull i = ptsOf (hullPoints (points i))
+
   abbrev pub hull′ : ℕ → List Pt
   hull′ i = ptsOf (hullPoints (points′ i))
-  abbrev pub quad : ℕ → List Pt
-  quad i = ptsOf (quadPoints (hullPoints (points i)))
-  abbrev pub quad′ : ℕ → List Pt
-  quad′ i = ptsOf (quadPoints (hullPoints (points′ i)))
 
   -- "A point is among its boundary points as often as the point moved there was among those of the first picture's i-th"
   unfoldable pub SamePoints : ℕ → Type 0
@@ -117,13 +115,15 @@ module _ (m : Move) (W H : ℕ) (p p′ : Plane) where
   -- side of it, its quad is none in both or has the same corners, moved alike, clockwise from some corner." None is the empty list,
   -- which is no other list turned round.
   unfoldable pub SameQuad : ℕ → Type 0
-  SameQuad i = (a b : Pt) → Far (hull i) a b → OneTop (hull i) a b → OneTop (hull i) b a → Rot (movedRound m w h (quad i)) (quad′ i)
+  SameQuad i = (a b : Pt) → Far (hull i) a b → OneTop (hull i) a b → OneTop (hull i) b a
+      → Rot (movedRound m w h (ptsOf (quadPoints (hullPoints (points i))))) (ptsOf (quadPoints (hullPoints (points′ i))))
 
   pub record Moved : Type 0 where
     pub thresholds : SameThresholds
     pub ink : SameInk
     pub inkCells : SameInkCells
     pub groups : SameGroups
+    -- "As many regions are kept", and of each of them:
     pub kept : keptCount p′ w′ h′ ≡ keptCount p w h
     pub regions : (i : ℕ) → i < keptCount p w h → SameRegion i
     pub boundary : (i : ℕ) → i < keptCount p w h → SamePoints i
@@ -135,8 +135,8 @@ unfoldable pub PicturesMoved : Type 0
 PicturesMoved = (W H : ℕ) (s : List ℕ) → Taken W H s → NoTies (plane (16 * W) s) (16 * W) (16 * H) → (m : Move)
     → Moved m W H (plane (16 * W) s) (plane (wideOf m (16 * W) (16 * H)) (movedBytes m (16 * W) (16 * H) s))
 
--- Demand 3. `PosesMoved` is stated where the eight counts are: for every version, list of as many marks, shift by whole quarters, reversal, and
--- any of these followed by another.
+-- Demand 3. `PosesMoved` is stated where the eight counts are: for every version, list of as many marks, shift by whole quarters,
+-- reversal, and any of these followed by another.
 pub record Demand3 : Type 0 where
   pub pictures : PicturesMoved
   pub poses : PosesMoved
