@@ -1,0 +1,5 @@
+pub mod Exact
+pub mod QuadExact
+pub mod Controls
+pub mod Walks
+pub mod Pairs

@@ -1,0 +1,5 @@
+pub mod Points
+pub mod Hull
+pub mod Quad
+pub mod Steps
+pub mod Claims

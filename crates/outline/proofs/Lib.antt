@@ -1,0 +1,7 @@
+pub mod Runs
+pub mod Boundary
+pub mod Points
+pub mod Rounds
+pub mod Outlines
+pub mod Members
+pub mod Controls

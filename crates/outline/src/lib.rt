@@ -1,0 +1,1 @@
+// Boundary points of a box of a picture, and the outline door.
