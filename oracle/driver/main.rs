@@ -6,11 +6,14 @@ mod border;
 mod calc;
 mod calls;
 mod fuzz;
+mod ieee;
 mod list;
+mod math;
 mod pic;
+mod transform;
 use std::io::{Read, Write};
 
-const AREAS: &[&calls::Area] = &[&border::AREA];
+const AREAS: &[&calls::Area] = &[&border::AREA, &ieee::AREA, &math::AREA, &transform::AREA];
 
 /// The areas of a name, or all of them.
 fn areas(name: &str) -> Vec<&'static calls::Area> {

@@ -55,4 +55,7 @@ fn area(name: &[u8]) {
 
 fn main() {
     area(b"border");
+    area(b"ieee");
+    area(b"math");
+    area(b"transform");
 }
