@@ -5,6 +5,7 @@ mod bench;
 mod border;
 mod calc;
 mod calls;
+mod fit;
 mod fuzz;
 mod ieee;
 mod list;
@@ -13,7 +14,7 @@ mod pic;
 mod transform;
 use std::io::{Read, Write};
 
-const AREAS: &[&calls::Area] = &[&border::AREA, &ieee::AREA, &math::AREA, &transform::AREA];
+const AREAS: &[&calls::Area] = &[&border::AREA, &fit::AREA, &ieee::AREA, &math::AREA, &transform::AREA];
 
 /// The areas of a name, or all of them.
 fn areas(name: &str) -> Vec<&'static calls::Area> {
@@ -37,6 +38,7 @@ fn main() {
         Some("attempt-verbose") => say(att::verbose(&att::decode(&stdin()))),
         Some("calc") => calc::run(),
         Some("fuzz") => fuzz::run(num(2, 1), num(3, 10000)),
+        Some("bench") if a.get(2).map(|s| s.as_str()) == Some("fit") => fit::bench(),
         Some("bench") => bench::run(),
         Some("vectors") => areas(&a[2]).into_iter().for_each(calls::vectors),
         // compare AREA|all SEED SECONDS [MOST]: the seconds are shared by the areas
