@@ -1,4 +1,5 @@
 // The finder as a static library for C and Rust.
+pub mod fits;
 pub mod marks_exports;
 pub mod numbers;
 
