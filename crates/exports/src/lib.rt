@@ -1,4 +1,5 @@
 // The finder as a static library for C and Rust.
+pub mod outlines;
 
 // One entry by its number (see crate `calls`): the words of its answer, first in `out`, and how
 // many.
