@@ -6,11 +6,24 @@
 // stand four to a word, lowest first. The answer's first word is 0, or the refusal's number alone.
 // The result is how many words of `out` were written; 0 where the call does not fit its kind.
 pub mod border;
+pub mod floats;
+pub mod ieee_calls;
+pub mod math_calls;
+pub mod transform_calls;
 pub mod words;
 
 pub fn call(kind: u32, args: &[u32], out: &mut [u32]) -> usize {
     if kind < 200 {
         return border::answer(kind, args, out);
+    }
+    if kind < 300 {
+        return ieee_calls::answer(kind, args, out);
+    }
+    if kind < 400 {
+        return math_calls::answer(kind, args, out);
+    }
+    if kind < 500 {
+        return transform_calls::answer(kind, args, out);
     }
     0
 }

@@ -6,6 +6,11 @@ pub fn wide(low: u32, high: u32) -> u64 {
     (high as u64) * 4294967296 + low as u64
 }
 
+// A word as a number of things.
+pub fn many(word: u32) -> usize {
+    word as usize
+}
+
 // The signed number whose bits are given.
 pub fn signed(word: u32) -> i32 {
     if word < 2147483648 {

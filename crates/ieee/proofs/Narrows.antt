@@ -305,6 +305,10 @@ no-nan-64 x f n =
 pub no-nan-32 : (n : ℕ) → n % 2147483648 ≤ 2139095040 → T (not (nanBits binary32 n))
 no-nan-32 n h = subst (λ (b : Bool). T (not b)) (sym (nanBits-above binary32 n)) (le→nltb 2139095040 (n % 2147483648) h)
 
+pub no-nan-pattern-64 : (n : ℕ) → n % 9223372036854775808 ≤ 9218868437227405312 → T (not (nanBits binary64 n))
+no-nan-pattern-64 n h =
+    subst (λ (b : Bool). T (not b)) (sym (nanBits-above binary64 n)) (le→nltb 9218868437227405312 (n % 9223372036854775808) h)
+
 pub narrow-nan : (x : Float) → x ≡ nan → nan ≡ narrow x
 narrow-nan x e = at ∙ ap narrow (sym e)
   where
