@@ -19,10 +19,11 @@ pub enum Found {
     Solved,
 }
 
-// The answer, and the solution's numbers; +0 in the places that it does not use.
+// The solution's numbers, +0 in the places that it does not use, and the answer. The numbers stand
+// first so that a copy of the whole moves them by pairs.
 pub struct Solution {
-    pub found: Found,
     pub x: [f64; 8],
+    pub found: Found,
 }
 
 // What a door of medians answers.
