@@ -17,7 +17,7 @@ use Rattle.laws.specs.Count.{count, least}
 use Rattle.laws.specs.Fold.{fold, first, endOf, tab}
 use Rattle.laws.specs.Plane.{Plane, plane, drawn, Alike, box, boxRow}
 use Rattle.laws.proofs.Planes.{plane-drawn}
-use Rattle.levels.specs.Threshold.{threshold, margin}
+use Rattle.margin.specs.Threshold.{threshold, share, margin}
 use Rattle.levels.specs.Level.{
   inBin,
   countRow,
@@ -53,11 +53,11 @@ unfolding threshold
 low-contrast d l e = simp (lt-ltb (l - d) 80 (omega arith))
 
 at-87 : threshold 0 87 ≡ 69
-unfolding threshold margin Ieee.toUnsigned Ieee.sub Ieee.mul Ieee.ofInt Ieee.ofBits
+unfolding threshold share margin Ieee.toUnsigned Ieee.sub Ieee.mul Ieee.ofInt Ieee.ofBits
 at-87 = refl
 
 at-255 : threshold 0 255 ≡ 204
-unfolding threshold margin Ieee.toUnsigned Ieee.sub Ieee.mul Ieee.ofInt Ieee.ofBits
+unfolding threshold share margin Ieee.toUnsigned Ieee.sub Ieee.mul Ieee.ofInt Ieee.ofBits
 at-255 = refl
 
 dark-12 : dark (spotted 12) 16 16 0 0 ≡ 248
@@ -90,7 +90,7 @@ abbrev filled : List ℕ
 filled = 204 ∷ 204 ∷ 204 ∷ 204 ∷ 204 ∷ 204 ∷ 204 ∷ 204 ∷ 204 ∷ 204 ∷ 204 ∷ 204 ∷ 0 ∷ 0 ∷ []
 
 sharp-row : drawn 14 1 (sharp 14 1 rowDark rowLight) [] ≡ sharpened
-unfolding tab sharp leastNear mostNear box boxRow fold threshold margin Ieee.toUnsigned Ieee.sub Ieee.mul Ieee.ofInt Ieee.ofBits
+unfolding tab sharp leastNear mostNear box boxRow fold threshold share margin Ieee.toUnsigned Ieee.sub Ieee.mul Ieee.ofInt Ieee.ofBits
 sharp-row = refl
 
 filled-row : iter 14 1 8 sharpened ≡ filled
@@ -126,9 +126,9 @@ to-11 (suc (suc (suc (suc (suc (suc (suc (suc (suc (suc (suc (suc x)))))))))))) 
 
 -- ---- labels, kept regions, runs
 
-share : label (two 3) (near 5) 5 0 ≡ label (two 3) (near 5) 5 3
+one-label : label (two 3) (near 5) 5 0 ≡ label (two 3) (near 5) 5 3
 unfolding label first? leader reach near close least count
-share = refl
+one-label = refl
 
 apart : (label (two 4) (near 5) 5 0 ≡ 1) × (label (two 4) (near 5) 5 4 ≡ 2) × (count (first? (two 4) (near 5) 5) 5 ≡ 2)
 unfolding label first? leader reach near close least count
@@ -165,7 +165,7 @@ stars =
       pixels-13 = dark-13;
       cells-to-11 = λ x l. row-of-14 x (omega arith) ∙ to-11 x l;
       cell-12 = row-of-14 12 (omega arith);
-      columns-0-3 = share;
+      columns-0-3 = one-label;
       columns-0-4 = apart;
       cells-15 = dropped;
       cells-16 = held;

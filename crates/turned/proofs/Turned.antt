@@ -35,7 +35,7 @@ use Rattle.turned.specs.Claims.{
   Demand3,
 }
 
-untied : (p : Plane) (w h : ℕ) → NoTies p w h → Untied (groupSize p w h) (groupsOf p w h)
+pub untied : (p : Plane) (w h : ℕ) → NoTies p w h → Untied (groupSize p w h) (groupsOf p w h)
 unfolding NoTies Untied want
 untied p w h n a b la lb wa wb e = n a b la lb (leb-true 16 (groupSize p w h a) wa) (leb-true 16 (groupSize p w h b) wb) e
 

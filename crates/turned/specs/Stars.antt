@@ -9,7 +9,7 @@ use lib.IntN.{pos, negsuc}
 use lib.ListN.{length}
 use Rattle.laws.specs.Count.{count}
 use Rattle.laws.specs.Plane.{Plane}
-use Rattle.levels.specs.Threshold.{threshold}
+use Rattle.margin.specs.Threshold.{threshold}
 use Rattle.levels.specs.Level.{dark, sharp, passes}
 use Rattle.regions.specs.Labels.{near, label, first?}
 use Rattle.regions.specs.Kept.{keptOf}

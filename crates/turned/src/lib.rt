@@ -1,2 +1,3 @@
-// Demand 3 as one claim. `specs/Claims.antt` states it; `claims` makes the gate count it.
+// Demand 3 as one claim, what the doors make of it, and document 01's starred lines as one table.
+// `specs/` has the statements; `claims` makes the gate count them.
 pub mod claims;

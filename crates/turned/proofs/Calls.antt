@@ -1,0 +1,152 @@
+-- What an accepted call of the picture door and of the outline door leaves and answers, by the contracts' definitions.
+--     no-refusal                    a number 0 was answered only where no check refuses
+--     regions-is, grid-at, label-at the regions answered, and the thresholds and labels left
+--     region-is                     the i-th region answered
+--     boundary-same                 boundary points by tests that agree in the picture
+--     points-is, listed-is          the points of the outline door for that region, and the numbers listed
+-- Assumes nothing.
+use mathlib.Core.Path.{_≡_, refl, sym, ap, ap₂, _∙_, subst}
+use mathlib.Core.Bool.{Bool, true, false, cond}
+use mathlib.Core.List.{List, [], _∷_, _++_, map}
+use Prim.Native.Nat.{ℕ, zero, suc, _+_, _-_, _*_, _<_, _≤_}
+use native.Mathlib.Omega.{arith}
+use lib.Dec.{ltb}
+use borrow.Author.Tests.{lt-ltb}
+use lib.Ieee.{Float}
+use lib.ListN.{length, getD, take, drop}
+use lib.Seq.{take-at}
+use Rattle.laws.specs.Plane.{Plane, plane, drawn, Alike}
+use Rattle.laws.specs.Move.{Box}
+use Rattle.laws.proofs.Planes.{plane-drawn}
+use Rattle.levels.specs.Level.{cells, level}
+use Rattle.regions.specs.Cells.{cells8, labelAt}
+use Rattle.regions.specs.Kept.{keptOf, keptCount, keptLabel}
+use Rattle.regions.specs.Boxes.{regionBox}
+use Rattle.regions.specs.Door.{noRegion, region, regionAt, keptRegions, checkGrids, answerBy, levelsAfter, labelsAfter}
+use Rattle.regions.specs.declared.answer.Kept.{Kept}
+use Rattle.regions.specs.declared.answer.PictureAnswer.{PictureAnswer}
+use Rattle.regions.specs.declared.answer.Region.{Region}
+use Rattle.hull.specs.Points.{floatsOf, laid}
+use Rattle.boundary.specs.Runs.{edges}
+use Rattle.boundary.specs.Boundary.{memberOf, isMember, memberAt, joined, across, down, rowPoints, columnPoints, rowsFrom, columnsFrom,
+    boundary, outlineOf}
+use Rattle.boundary.proofs.Runs.{edges-ext}
+use Rattle.boundary.proofs.Boundary.{Within}
+use Rattle.boundary.proofs.Members.{member-lists}
+use Rattle.outline.specs.Door.{boxAt, doorPoints, answered, listAfter}
+use Rattle.outline.specs.declared.Answer.{Answer}
+use Rattle.outline.specs.declared.Answer.the-variants.{Points, Refused}
+use Rattle.outline.proofs.Writes.{length-floats}
+use Rattle.turned.specs.Doors.{Pictured, regionOf, checkedFor, pointsFor, Outlined, listed}
+
+-- ---- the picture door
+
+never : (n : ℕ) → suc n ≡ 0 → ⊥
+never n e = omega arith
+
+no-refusal : (n : ℕ) (k : Kept) → answerBy n k .refused ≡ 0 → answerBy n k .regions ≡ k
+no-refusal zero k e = refl
+no-refusal (suc n) k e = absurd (never n e)
+
+module _ (s : List ℕ) (w h : ℕ) (c : Pictured s w h) where
+  pub regions-is : c .answer .regions ≡ keptRegions (plane w s) w h
+  regions-is =
+      ap (λ (a : PictureAnswer). a .regions) (c .answer-is)
+      ∙ no-refusal (checkGrids w h (length s) (length (c .lent-grid)) (length (c .lent-labels)) (length (c .lent-stack)))
+      (keptRegions (plane w s) w h) (sym (ap (λ (a : PictureAnswer). a .refused) (c .answer-is)) ∙ c .accepted)
+
+  grid-is : c .grid ≡ drawn (cells w) (cells h) (level (plane w s) w h) (c .lent-grid)
+  grid-is = c .grid-is ∙ ap (λ (n : ℕ). levelsAfter n s w h (c .lent-grid)) (c .accepted)
+
+  labels-is : c .labels ≡ drawn (cells8 w) (cells8 h) (labelAt (plane w s) w h) (c .lent-labels)
+  labels-is = c .labels-is ∙ ap (λ (n : ℕ). labelsAfter n s w h (c .lent-labels)) (c .accepted)
+
+  pub grid-at : Alike (cells w) (cells h) (plane (cells w) (c .grid)) (level (plane w s) w h)
+  grid-at x y lx ly =
+      ap (λ (l : List ℕ). plane (cells w) l x y) grid-is
+      ∙ plane-drawn (cells w) (cells h) (level (plane w s) w h) (c .lent-grid) x y lx ly
+
+  pub label-at : Alike (cells8 w) (cells8 h) (plane (cells8 w) (c .labels)) (labelAt (plane w s) w h)
+  label-at x y lx ly =
+      ap (λ (l : List ℕ). plane (cells8 w) l x y) labels-is
+      ∙ plane-drawn (cells8 w) (cells8 h) (labelAt (plane w s) w h) (c .lent-labels) x y lx ly
+
+-- ---- the regions answered
+
+kept-few : (p : Plane) (w h : ℕ) → keptCount p w h ≤ 4
+unfolding keptCount keptOf
+kept-few p w h = omega arith
+
+region-there : (p : Plane) (w h i : ℕ) → i < keptCount p w h → regionAt p w h i ≡ region p w h i
+unfolding regionAt
+region-there p w h i l = rw (lt-ltb i (keptCount p w h) l)
+
+region-listed : (p : Plane) (w h i : ℕ) → i < keptCount p w h → getD (keptRegions p w h .list) i noRegion ≡ region p w h i
+unfolding keptRegions
+region-listed p w h zero l = region-there p w h 0 l
+region-listed p w h (suc zero) l = region-there p w h 1 l
+region-listed p w h (suc (suc zero)) l = region-there p w h 2 l
+region-listed p w h (suc (suc (suc zero))) l = region-there p w h 3 l
+region-listed p w h (suc (suc (suc (suc i)))) l = absurd (let f = kept-few p w h in omega arith)
+
+pub region-is : (s : List ℕ) (w h : ℕ) (c : Pictured s w h) (i : ℕ) → i < keptCount (plane w s) w h
+    → regionOf s w h c i ≡ region (plane w s) w h i
+region-is s w h c i l =
+    ap (λ (k : Kept). getD (k .list) i noRegion) (regions-is s w h c) ∙ region-listed (plane w s) w h i l
+
+-- ---- boundary points by tests that agree
+
+joined-same : {A : Type 0} (n : ℕ) (f g : ℕ → List A) → ((i : ℕ) → i < n → f i ≡ g i) → joined n f ≡ joined n g
+unfolding joined
+joined-same zero f g same = refl
+joined-same {A} (suc n) f g same =
+    ap₂ (λ (a b : List A). a ++ b) (joined-same n f g (λ i l. same i (omega arith))) (same n (omega arith))
+
+inside : (a e n i : ℕ) → e ≤ n → i < e - a → a + i < n
+inside a e n i l b = omega arith
+
+pub boundary-same : (k w h : ℕ) (t u : ℕ → ℕ → Bool) (b : Box) → Within b w h → ((x y : ℕ) → x < w → y < h → t x y ≡ u x y)
+    → boundary k t b ≡ boundary k u b
+unfolding boundary rowsFrom columnsFrom rowPoints columnPoints
+boundary-same k w h t u b within same =
+    ap₂ (λ (r s : List (ℕ × ℕ)). r ++ s)
+    (joined-same (b .y1 - b .y0) (λ j. rowPoints k t (b .x0) (b .x1 - b .x0) (b .y0 + j))
+        (λ j. rowPoints k u (b .x0) (b .x1 - b .x0) (b .y0 + j))
+    (λ j lj. ap (map (across (2 * (b .y0 + j) + 1)))
+    (edges-ext k (b .x1 - b .x0) (λ i. t (b .x0 + i) (b .y0 + j)) (λ i. u (b .x0 + i) (b .y0 + j)) (b .x0)
+    (λ i li. same (b .x0 + i) (b .y0 + j) (inside (b .x0) (b .x1) w i (within .wide) li) (inside (b .y0) (b .y1) h j (within .high) lj)))))
+    (joined-same (b .x1 - b .x0) (λ i. columnPoints k t (b .y0) (b .y1 - b .y0) (b .x0 + i))
+    (λ i. columnPoints k u (b .y0) (b .y1 - b .y0) (b .x0 + i))
+    (λ i li. ap (map (down (2 * (b .x0 + i) + 1)))
+    (edges-ext k (b .y1 - b .y0) (λ j. t (b .x0 + i) (b .y0 + j)) (λ j. u (b .x0 + i) (b .y0 + j)) (b .y0)
+    (λ j lj. same (b .x0 + i) (b .y0 + j) (inside (b .x0) (b .x1) w i (within .wide) li) (inside (b .y0) (b .y1) h j (within .high) lj)))))
+
+-- ---- the outline door
+
+pub points-is : (s : List ℕ) (w h : ℕ) (c : Pictured s w h) (i : ℕ) → i < keptCount (plane w s) w h
+    → Within (regionBox (plane w s) w h (keptLabel (plane w s) w h i)) w h
+    → pointsFor s w h c (regionOf s w h c i) ≡ outlineOf 4 (plane w s) w h (keptLabel (plane w s) w h i)
+points-is s w h c i l within =
+    ap (pointsFor s w h c) (region-is s w h c i l)
+    ∙ unfold doorPoints memberAt outlineOf region in
+    boundary-same 4 w h (memberOf (keptLabel (plane w s) w h i) (plane w s) (plane (cells w) (c .grid)) (plane (cells8 w) (c .labels)))
+    (isMember (plane w s) w h (keptLabel (plane w s) w h i)) (regionBox (plane w s) w h (keptLabel (plane w s) w h i)) within
+    (member-lists (plane w s) w h (keptLabel (plane w s) w h i) (plane (cells w) (c .grid)) (plane (cells8 w) (c .labels))
+    (grid-at s w h c) (label-at s w h c))
+
+module _ (s : List ℕ) (w h : ℕ) (c : Pictured s w h) (r : Region) (o : Outlined s w h c r) where
+  abbrev P : List (ℕ × ℕ)
+  P = pointsFor s w h c r
+
+  answer-is : o .answer ≡ Points (length P)
+  unfolding answered
+  answer-is = o .answer-is ∙ ap (λ (n : ℕ). answered n (length P)) (o .accepted)
+
+  list-is : o .list ≡ laid (floatsOf P) (o .lent)
+  unfolding listAfter
+  list-is = o .list-is ∙ ap (λ (n : ℕ). listAfter n P (o .lent)) (o .accepted)
+
+  pub listed-is : listed (o .answer) (o .list) ≡ floatsOf P
+  listed-is =
+      ap₂ (λ (a : Answer) (l : List Float). listed a l) answer-is list-is
+      ∙ take-at (floatsOf P) (drop (length (floatsOf P)) (o .lent)) (2 * length P) (length-floats P)

@@ -1,0 +1,242 @@
+-- The doors carry demand 3: the claim, read through what accepted calls leave and answer. Assumes nothing.
+use mathlib.Core.Path.{_≡_, refl, sym, ap, ap₂, _∙_, subst}
+use mathlib.Core.Logic.{_↔_}
+use mathlib.Core.Bool.{Bool, true, false, cond}
+use mathlib.Core.List.{List, []}
+use Prim.Native.Nat.{ℕ, zero, suc, _+_, _*_, _/_, _<_, _≤_}
+use native.Mathlib.Omega.{arith}
+use lib.Dec.{ltb}
+use lib.ListN.{length}
+use Rattle.laws.specs.Plane.{Plane, plane, Alike}
+use Rattle.laws.specs.Move.{Move, wideOf, highOf, moved, placeOf, Box, boxOf, movedBytes}
+use Rattle.laws.proofs.Planes.{plane-drawn}
+use Rattle.laws.proofs.Moves.{place-within, sides-times}
+use Rattle.levels.specs.Level.{cells, level, inkOf, inkAt}
+use Rattle.regions.specs.Labels.{label}
+use Rattle.regions.specs.Cells.{cells8, cell, inkCell, cellLabel, labelAt}
+use Rattle.regions.specs.Kept.{keptCount, keptLabel}
+use Rattle.regions.specs.Boxes.{regionBox}
+use Rattle.regions.specs.Door.{region, keptRegions}
+use Rattle.regions.specs.declared.answer.Kept.{Kept}
+use Rattle.regions.specs.declared.answer.Region.{Region}
+use Rattle.hull.specs.Points.{floatsOf}
+use Rattle.hull.specs.Hull.{hullPoints, hullFloats}
+use Rattle.hull.specs.Quad.{quadPoints, quadFloats}
+use Rattle.boundary.specs.Boundary.{outlineOf}
+use Rattle.boundary.proofs.Boundary.{Within, box-within}
+use Rattle.boundary.proofs.Points.{region-within}
+use Rattle.outline.specs.Door.{boxAt}
+use Rattle.turned.specs.Claims.{Taken, NoTies, Moved, SameThresholds, SameInk, SameInkCells, SameGroups, SameRegion, SamePoints,
+    SameHull, SameQuad}
+use Rattle.turned.specs.Doors.{Pictured, regionOf, pointsFor, Outlined, listed, OutlinesAlike, RegionsAlike, DoorsAlike, DoorsMoved}
+use Rattle.turned.proofs.Floats.{hull-floats, quad-floats}
+use Rattle.turned.proofs.Calls.{regions-is, grid-at, label-at, region-is, points-is, listed-is}
+use Rattle.turned.proofs.Turned.{untied, moved-is}
+
+-- a label is 0 exactly where the cell is no ink cell
+label-none : (p : Plane) (w h x y : ℕ) → labelAt p w h x y ≡ 0 → inkCell p w h (cell (cells8 w) x y) ≡ false
+unfolding labelAt cellLabel label
+label-none p w h x y e = go (inkCell p w h (cell (cells8 w) x y)) _ e
+  where
+    go : (b : Bool) (n : ℕ) → cond b (suc n) zero ≡ 0 → b ≡ false
+    go true n e = absurd (omega arith)
+    go false n e = refl
+
+none-label : (p : Plane) (w h x y : ℕ) → inkCell p w h (cell (cells8 w) x y) ≡ false → labelAt p w h x y ≡ 0
+unfolding labelAt cellLabel label
+none-label p w h x y e = rw e
+
+some-label : (p : Plane) (w h x y : ℕ) → 0 < labelAt p w h x y → inkCell p w h (cell (cells8 w) x y) ≡ true
+some-label p w h x y l = go (inkCell p w h (cell (cells8 w) x y)) refl
+  where
+    go : (b : Bool) → inkCell p w h (cell (cells8 w) x y) ≡ b → b ≡ true
+    go true e = refl
+    go false e = absurd (let z = none-label p w h x y e in omega arith)
+
+-- an equation on either side of an equivalence exchanged
+swap : (a b c d a′ b′ c′ d′ : ℕ) → a ≡ a′ → b ≡ b′ → c ≡ c′ → d ≡ d′ → (a′ ≡ b′) ↔ (c′ ≡ d′) → (a ≡ b) ↔ (c ≡ d)
+swap a b c d a′ b′ c′ d′ ea eb ec ed f =
+    (λ e. ec ∙ f .0 (sym ea ∙ e ∙ eb) ∙ sym ed, λ e. ea ∙ f .1 (sym ec ∙ e ∙ ed) ∙ sym eb)
+
+module _ (m : Move) (W H : ℕ) (s : List ℕ) (c : Pictured s (16 * W) (16 * H)) (s′ : List ℕ)
+    (c′ : Pictured s′ (wideOf m (16 * W) (16 * H)) (highOf m (16 * W) (16 * H))) (t : Taken W H s)
+    (ties : NoTies (plane (16 * W) s) (16 * W) (16 * H))
+    (same : Alike (wideOf m (16 * W) (16 * H)) (highOf m (16 * W) (16 * H)) (plane (wideOf m (16 * W) (16 * H)) s′)
+    (moved m (16 * W) (16 * H) (plane (16 * W) s))) where
+  abbrev w : ℕ
+  w = 16 * W
+
+  abbrev h : ℕ
+  h = 16 * H
+
+  abbrev w′ : ℕ
+  w′ = wideOf m w h
+
+  abbrev h′ : ℕ
+  h′ = highOf m w h
+
+  abbrev p : Plane
+  p = plane w s
+
+  abbrev p′ : Plane
+  p′ = plane w′ s′
+
+  claim : Moved m W H p p′
+  claim = moved-is m W H p p′ (t .wide) (t .high) (t .wide-most) (t .high-most) same ties
+
+  -- as many level cells and region cells as the moved sides have
+  level-cells : (cells w′ ≡ wideOf m W H) × (cells h′ ≡ highOf m W H)
+  level-cells = let e = sides-times m 16 W H in (omega (arith, e .0), omega (arith, e .1))
+
+  region-cells : (cells8 w′ ≡ wideOf m (cells8 w) (cells8 h)) × (cells8 h′ ≡ highOf m (cells8 w) (cells8 h))
+  region-cells =
+      let a : cells8 w ≡ 2 * W = omega arith in
+      let b : cells8 h ≡ 2 * H = omega arith in
+      let e = sides-times m 16 W H in
+      let f = sides-times m 2 W H in
+      let x : cells8 w′ ≡ wideOf m (2 * W) (2 * H) = omega (arith, e .0, f .0) in
+      let y : cells8 h′ ≡ highOf m (2 * W) (2 * H) = omega (arith, e .1, f .1) in
+      (x ∙ ap₂ (λ (i j : ℕ). wideOf m i j) (sym a) (sym b), y ∙ ap₂ (λ (i j : ℕ). highOf m i j) (sym a) (sym b))
+
+  -- labels left at a cell and at the cell where it goes
+  label-there : (x y : ℕ) → x < cells8 w → y < cells8 h → plane (cells8 w) (c .labels) x y ≡ labelAt p w h x y
+  label-there x y lx ly = label-at s w h c x y lx ly
+
+  label-there′ : (x y : ℕ) → x < cells8 w → y < cells8 h
+      → plane (cells8 w′) (c′ .labels) (placeOf m (cells8 w) (cells8 h) x y .0) (placeOf m (cells8 w) (cells8 h) x y .1)
+      ≡ labelAt p′ w′ h′ (placeOf m (cells8 w) (cells8 h) x y .0) (placeOf m (cells8 w) (cells8 h) x y .1)
+  label-there′ x y lx ly =
+      let i = place-within m (cells8 w) (cells8 h) x y lx ly in
+      let e = region-cells in
+      label-at s′ w′ h′ c′ _ _ (subst (λ (n : ℕ). placeOf m (cells8 w) (cells8 h) x y .0 < n) (sym (e .0)) (i .0))
+      (subst (λ (n : ℕ). placeOf m (cells8 w) (cells8 h) x y .1 < n) (sym (e .1)) (i .1))
+
+  kept-is : c .answer .regions .kept ≡ keptCount p w h
+  kept-is = ap (λ (k : Kept). k .kept) (regions-is s w h c) ∙ unfold keptRegions in refl
+
+  kept-is′ : c′ .answer .regions .kept ≡ keptCount p′ w′ h′
+  kept-is′ = ap (λ (k : Kept). k .kept) (regions-is s′ w′ h′ c′) ∙ unfold keptRegions in refl
+
+  thresholds : (x y : ℕ) → x < W → y < H
+      → plane (cells w′) (c′ .grid) (placeOf m W H x y .0) (placeOf m W H x y .1) ≡ plane (cells w) (c .grid) x y
+  unfolding SameThresholds
+  thresholds x y lx ly =
+      let i = place-within m W H x y lx ly in
+      let e = level-cells in
+      grid-at s′ w′ h′ c′ _ _ (subst (λ (n : ℕ). placeOf m W H x y .0 < n) (sym (e .0)) (i .0))
+      (subst (λ (n : ℕ). placeOf m W H x y .1 < n) (sym (e .1)) (i .1))
+      ∙ claim .thresholds x y lx ly
+      ∙ sym (grid-at s w h c x y (omega arith) (omega arith))
+
+  ink : (x y : ℕ) → x < w → y < h
+      → inkOf p′ (plane (cells w′) (c′ .grid)) (placeOf m w h x y .0) (placeOf m w h x y .1) ≡ inkOf p (plane (cells w) (c .grid)) x y
+  unfolding SameInk inkOf inkAt
+  ink x y lx ly =
+      let i = place-within m w h x y lx ly in
+      let X = placeOf m w h x y .0 in
+      let Y = placeOf m w h x y .1 in
+      ap (λ (n : ℕ). ltb (p′ X Y) n) (grid-at s′ w′ h′ c′ (X / 16) (Y / 16) (omega (arith, i .0)) (omega (arith, i .1)))
+      ∙ claim .ink x y lx ly
+      ∙ sym (ap (λ (n : ℕ). ltb (p x y) n) (grid-at s w h c (x / 16) (y / 16) (omega arith) (omega arith)))
+
+  unlabelled : (x y : ℕ) → x < cells8 w → y < cells8 h
+      → (plane (cells8 w) (c .labels) x y ≡ 0)
+      ↔ (plane (cells8 w′) (c′ .labels) (placeOf m (cells8 w) (cells8 h) x y .0) (placeOf m (cells8 w) (cells8 h) x y .1) ≡ 0)
+  unfolding SameInkCells
+  unlabelled x y lx ly =
+      let e = claim .inkCells x y lx ly in
+      let X = placeOf m (cells8 w) (cells8 h) x y .0 in
+      let Y = placeOf m (cells8 w) (cells8 h) x y .1 in (
+        λ z. label-there′ x y lx ly ∙ none-label p′ w′ h′ X Y (e ∙ label-none p w h x y (sym (label-there x y lx ly) ∙ z)),
+        λ z. label-there x y lx ly ∙ none-label p w h x y (sym e ∙ label-none p′ w′ h′ X Y (sym (label-there′ x y lx ly) ∙ z)),
+      )
+
+  groups : (x y u v : ℕ) → x < cells8 w → y < cells8 h → u < cells8 w → v < cells8 h
+      → 0 < plane (cells8 w) (c .labels) x y → 0 < plane (cells8 w) (c .labels) u v
+      → (plane (cells8 w) (c .labels) x y ≡ plane (cells8 w) (c .labels) u v)
+      ↔ (plane (cells8 w′) (c′ .labels) (placeOf m (cells8 w) (cells8 h) x y .0) (placeOf m (cells8 w) (cells8 h) x y .1)
+      ≡ plane (cells8 w′) (c′ .labels) (placeOf m (cells8 w) (cells8 h) u v .0) (placeOf m (cells8 w) (cells8 h) u v .1))
+  unfolding SameGroups
+  groups x y u v lx ly lu lv some some′ =
+      swap _ _ _ _ _ _ _ _ (label-there x y lx ly) (label-there u v lu lv) (label-there′ x y lx ly) (label-there′ u v lu lv)
+      (claim .groups x y u v lx ly lu lv (some-label p w h x y (subst (λ (n : ℕ). 0 < n) (label-there x y lx ly) some))
+      (some-label p w h u v (subst (λ (n : ℕ). 0 < n) (label-there u v lu lv) some′)))
+
+  -- ---- the i-th region
+  module _ (i : ℕ) (l : i < keptCount p w h) where
+    l′ : i < keptCount p′ w′ h′
+    l′ = subst (λ (n : ℕ). i < n) (sym (claim .kept)) l
+
+    within : Within (regionBox p w h (keptLabel p w h i)) w h
+    within = region-within m W H (t .wide) (t .high) p p′ same (untied p w h ties) i l
+
+    within′ : Within (regionBox p′ w′ h′ (keptLabel p′ w′ h′ i)) w′ h′
+    unfolding SameRegion
+    within′ = subst (λ (b : Box). Within b w′ h′) (sym (claim .regions i l .1))
+        (box-within m w h (regionBox p w h (keptLabel p w h i)) within)
+
+    regions : RegionsAlike m W H s c s′ c′ (regionOf s w h c i) (regionOf s′ w′ h′ c′ i)
+    regions =
+        subst (λ (r : Region). RegionsAlike m W H s c s′ c′ r (regionOf s′ w′ h′ c′ i)) (sym (region-is s w h c i l))
+        (subst (λ (r : Region). RegionsAlike m W H s c s′ c′ (region p w h i) r) (sym (region-is s′ w′ h′ c′ i l′)) alike)
+      where
+        alike : RegionsAlike m W H s c s′ c′ (region p w h i) (region p′ w′ h′ i)
+        alike = unfold region SameRegion in record {
+          group = λ x y lx ly.
+              swap _ _ _ _ _ _ _ _ (label-there x y lx ly) refl (label-there′ x y lx ly) refl (claim .regions i l .0 x y lx ly);
+          box = claim .regions i l .1;
+          count = claim .regions i l .2;
+        }
+
+    abbrev L : List (ℕ × ℕ)
+    L = outlineOf 4 p w h (keptLabel p w h i)
+
+    abbrev L′ : List (ℕ × ℕ)
+    L′ = outlineOf 4 p′ w′ h′ (keptLabel p′ w′ h′ i)
+
+    module _ (o : Outlined s w h c (regionOf s w h c i)) (o′ : Outlined s′ w′ h′ c′ (regionOf s′ w′ h′ c′ i)) where
+      stored : listed (o .answer) (o .list) ≡ floatsOf L
+      stored = listed-is s w h c (regionOf s w h c i) o ∙ ap floatsOf (points-is s w h c i l within)
+
+      stored′ : listed (o′ .answer) (o′ .list) ≡ floatsOf L′
+      stored′ = listed-is s′ w′ h′ c′ (regionOf s′ w′ h′ c′ i) o′ ∙ ap floatsOf (points-is s′ w′ h′ c′ i l′ within′)
+
+      hulled : hullFloats (listed (o .answer) (o .list)) ≡ floatsOf (hullPoints L)
+      hulled = ap hullFloats stored ∙ hull-floats L
+
+      hulled′ : hullFloats (listed (o′ .answer) (o′ .list)) ≡ floatsOf (hullPoints L′)
+      hulled′ = ap hullFloats stored′ ∙ hull-floats L′
+
+      outlines : OutlinesAlike m w h (listed (o .answer) (o .list)) (listed (o′ .answer) (o′ .list))
+      unfolding SamePoints SameHull SameQuad
+      outlines = record {
+        points = L;
+        points′ = L′;
+        vertices = hullPoints L;
+        vertices′ = hullPoints L′;
+        corners = quadPoints (hullPoints L);
+        corners′ = quadPoints (hullPoints L′);
+        stored = (stored, stored′);
+        hulled = (hulled, hulled′);
+        cornered = (ap quadFloats hulled ∙ quad-floats (hullPoints L), ap quadFloats hulled′ ∙ quad-floats (hullPoints L′));
+        boundary = claim .boundary i l;
+        hull = claim .hulls i l;
+        quad = claim .quads i l;
+      }
+
+  pub alike : DoorsAlike m W H s c s′ c′
+  alike = record {
+    thresholds = thresholds;
+    ink = ink;
+    unlabelled = unlabelled;
+    groups = groups;
+    kept = kept-is′ ∙ claim .kept ∙ sym kept-is;
+    regions = λ i l. regions i (subst (λ (n : ℕ). i < n) kept-is l);
+    outlines = λ i l. outlines i (subst (λ (n : ℕ). i < n) kept-is l);
+  }
+
+pub doors-moved : DoorsMoved
+unfolding DoorsMoved
+doors-moved W H s t ties m c c′ =
+    alike m W H s c (movedBytes m (16 * W) (16 * H) s) c′ t ties
+    (plane-drawn (wideOf m (16 * W) (16 * H)) (highOf m (16 * W) (16 * H)) (moved m (16 * W) (16 * H) (plane (16 * W) s)) [])
