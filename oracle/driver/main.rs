@@ -9,12 +9,15 @@ mod fit;
 mod fuzz;
 mod ieee;
 mod list;
+mod marks;
 mod math;
+mod numbers_bench;
 mod pic;
 mod transform;
 use std::io::{Read, Write};
 
-const AREAS: &[&calls::Area] = &[&border::AREA, &fit::AREA, &ieee::AREA, &math::AREA, &transform::AREA];
+const AREAS: &[&calls::Area] =
+    &[&border::AREA, &ieee::AREA, &math::AREA, &transform::AREA, &marks::AREA, &fit::AREA];
 
 /// The areas of a name, or all of them.
 fn areas(name: &str) -> Vec<&'static calls::Area> {
@@ -38,6 +41,8 @@ fn main() {
         Some("attempt-verbose") => say(att::verbose(&att::decode(&stdin()))),
         Some("calc") => calc::run(),
         Some("fuzz") => fuzz::run(num(2, 1), num(3, 10000)),
+        Some("bench") if a.get(2).is_some_and(|s| s == "marks") => marks::bench(),
+        Some("bench") if a.get(2).is_some_and(|s| s == "numbers") => numbers_bench::run(),
         Some("bench") if a.get(2).map(|s| s.as_str()) == Some("fit") => fit::bench(),
         Some("bench") => bench::run(),
         Some("vectors") => areas(&a[2]).into_iter().for_each(calls::vectors),

@@ -10,6 +10,7 @@ pub mod fit_answers;
 pub mod fit_calls;
 pub mod floats;
 pub mod ieee_calls;
+pub mod marks_calls;
 pub mod math_calls;
 pub mod transform_calls;
 pub mod words;
@@ -27,8 +28,11 @@ pub fn call(kind: u32, args: &[u32], out: &mut [u32]) -> usize {
     if kind < 500 {
         return transform_calls::answer(kind, args, out);
     }
-    if kind < 800 {
+    if kind < 700 {
         return 0;
+    }
+    if kind < 800 {
+        return marks_calls::answer(kind, args, out);
     }
     if kind < 900 {
         return fit_calls::answer(kind, args, out);

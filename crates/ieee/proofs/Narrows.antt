@@ -20,7 +20,7 @@ use native.Mathlib.Nat.{
 use native.Mathlib.Numerals.{add-one}
 use native.Mathlib.Omega.{arith}
 use mathlib.Core.Bool.{Bool, true, false, not, cond}
-use lib.Dec.{T, leb, ltb, leb→le, nleb→lt, nltb→le, lit≤, lit<}
+use lib.Dec.{T, leb, ltb, leb→le, nleb→lt, nltb→le, lit<}
 use lib.Arith.{le→nltb}
 use lib.Pow.{pow-add, pow-pos, pow-mono, shl-lt, shl-exact}
 use lib.Ieee.{
@@ -346,14 +346,14 @@ closest-29 m = go (lt-or-ge (m % 536870912 * 2) 536870912) (lt-or-ge 536870912 (
     go (inr g) (inr l) = let e : m % 536870912 * 2 ≡ 536870912 = le-antisymm l g in tie m e ∙ closest-tie m 536870912 e
 
 -- the sum of the whole pattern a: its exponent's places come along
-pub normal-sum : (a : ℕ) → 4039728865751334912 ≤ a → a < 9218868437227405312
+pub normal-sum : (a : ℕ) → 4039728865751334912 ≤ a → a ≤ 9218868437227405312
     → (a - 4035225266123964416 + 268435455 + a / 536870912 % 2) / 536870912
     ≡ dropped a * 8388608 + closest (mant64 a) (2 ^ cut64 a)
 normal-sum a lo hi =
     whole a lo hi
     ∙ ap (λ (z : ℕ). dropped a * 8388608 + z) (closest-29 (mant64 a) ∙ ap (λ (t : ℕ). closest (mant64 a) (2 ^ t)) (sym (cut a lo hi)))
   where
-    cut : (a : ℕ) → 4039728865751334912 ≤ a → a < 9218868437227405312 → cut64 a ≡ 29
+    cut : (a : ℕ) → 4039728865751334912 ≤ a → a ≤ 9218868437227405312 → cut64 a ≡ 29
     cut a lo hi = omega arith
 
     less : (a k m : ℕ) → a ≡ (k + 896) * 4503599627370496 + m → a - 4035225266123964416 ≡ k * 4503599627370496 + m
@@ -377,11 +377,11 @@ normal-sum a lo hi =
         (parity a k m (a / 536870912) (m / 536870912) (upper a k m e))
         ∙ carried k m (m / 536870912 % 2)
 
-    parts : (a : ℕ) → 4039728865751334912 ≤ a → a < 9218868437227405312
+    parts : (a : ℕ) → 4039728865751334912 ≤ a → a ≤ 9218868437227405312
         → a ≡ (dropped a + 896) * 4503599627370496 + mant64 a
     parts a lo hi = omega arith
 
-    whole : (a : ℕ) → 4039728865751334912 ≤ a → a < 9218868437227405312
+    whole : (a : ℕ) → 4039728865751334912 ≤ a → a ≤ 9218868437227405312
         → (a - 4035225266123964416 + 268435455 + a / 536870912 % 2) / 536870912
         ≡ dropped a * 8388608 + (mant64 a + 268435455 + mant64 a / 536870912 % 2) / 536870912
     whole a lo hi = split a (dropped a) (mant64 a) (parts a lo hi)
@@ -405,23 +405,32 @@ unsigned b =
 abbrev pub Pattern : ℕ → ℕ → Type 0
 Pattern b r = (r % 2147483648 ≤ 2139095040) × (ofBits binary32 r ≡ narrow (ofBits binary64 b))
 
-pub pattern-finite : (b r : ℕ) → b < 18446744073709551616 → b % 9223372036854775808 < 9218868437227405312
+finite-or-inf : (a : ℕ) → a ≤ 9218868437227405312 → (a < 9218868437227405312) ⊎ (a ≡ 9218868437227405312)
+finite-or-inf a h = go (eq-or-lt-of-le h)
+  where
+    go : (a ≡ 9218868437227405312) ⊎ (a < 9218868437227405312) → (a < 9218868437227405312) ⊎ (a ≡ 9218868437227405312)
+    go (inl e) = inr e
+    go (inr l) = inl l
+
+inf-pattern : narrowBits 9218868437227405312 ≡ 2139095040
+inf-pattern = refl
+
+-- the pattern of what is no NaN, from its sign and `narrowBits` of the rest
+pub pattern-is : (b r : ℕ) → b < 18446744073709551616 → b % 9223372036854775808 ≤ 9218868437227405312
     → r ≡ narrowBits (b % 9223372036854775808) → Pattern b (b / 9223372036854775808 * 2147483648 + r)
-pattern-finite b r w h e =
-    let is : r ≡ narrowBits b = e ∙ unsigned b in (
-      pattern-in b r (capped r (dropped b * 8388608 + closest (mant64 b) (2 ^ cut64 b)) is),
-      ap (λ (z : ℕ). ofBits binary32 (z + r)) (sign-moved b w)
-          ∙ ap (λ (z : ℕ). ofBits binary32 (cond (leb 9223372036854775808 b) 2147483648 0 + z)) is ∙ sym (narrow-finite b h),
-    )
+pattern-is b r w h e = (
+  pattern-in b r (capped r (dropped (b % 9223372036854775808) * 8388608
+      + closest (mant64 (b % 9223372036854775808)) (2 ^ cut64 (b % 9223372036854775808))) e),
+  ap (λ (z : ℕ). ofBits binary32 (z + r)) (sign-moved b w) ∙ go (finite-or-inf (b % 9223372036854775808) h),
+)
   where
     capped : (r a : ℕ) → r ≡ min a 2139095040 → r ≤ 2139095040
     capped r a e = omega arith
 
-pub pattern-inf : (b : ℕ) → b < 18446744073709551616 → b % 9223372036854775808 ≤ 9218868437227405312
-    → 9218868437227405312 ≤ b % 9223372036854775808
-    → Pattern b (b / 9223372036854775808 * 2147483648 + 2139095040)
-pattern-inf b w h g = (
-  pattern-in b 2139095040 (lit≤ tt),
-  ap (λ (z : ℕ). ofBits binary32 (z + 2139095040)) (sign-moved b w)
-      ∙ sym (narrow-inf b (le-antisymm h g)),
-)
+    signed : ℕ → Float
+    signed z = ofBits binary32 (cond (leb 9223372036854775808 b) 2147483648 0 + z)
+
+    go : (b % 9223372036854775808 < 9218868437227405312) ⊎ (b % 9223372036854775808 ≡ 9218868437227405312)
+        → ofBits binary32 (cond (leb 9223372036854775808 b) 2147483648 0 + r) ≡ narrow (ofBits binary64 b)
+    go (inl l) = ap signed (e ∙ unsigned b) ∙ sym (narrow-finite b l)
+    go (inr i) = ap signed (e ∙ ap (λ (a : ℕ). narrowBits a) i ∙ inf-pattern) ∙ sym (narrow-inf b i)

@@ -80,10 +80,10 @@ fn any_bits(b: u64) -> u32
 
 // The same in one sum, where the value is not below the least normal f32, 2^-126: the exponents of
 // the formats differ by 896, and of the 29 places cut off half of the last one kept, less one where
-// that one is even, carries into it.
+// that one is even, carries into it. An infinity stays one.
 fn normal_bits(a: u64) -> u32
     requires { ⌜ 4039728865751334912 ≤ a ⌝ }
-    requires { ⌜ a < 9218868437227405312 ⌝ }
+    requires { ⌜ a ≤ 9218868437227405312 ⌝ }
     ensures { λ r. ⌜ r ≡ narrowBits a ⌝ }
 {
     let p = (a - 0x3800_0000_0000_0000 + 0x0fff_ffff + a / 0x2000_0000 % 2) / 0x2000_0000;
@@ -105,8 +105,5 @@ pub fn narrow_bits(b: u64) -> u32
     if a < 0x3810_0000_0000_0000 {
         return sign + any_bits(a);
     }
-    if a < 0x7ff0_0000_0000_0000 {
-        return sign + normal_bits(a);
-    }
-    sign + 0x7f80_0000
+    sign + normal_bits(a)
 }

@@ -22,7 +22,8 @@ use Rattle.lcr_core.proofs.Signed.{read}
 use Rattle.lcr_core.proofs.Cells.{edge-read, offset-read, offset-range}
 use Rattle.lcr_core.specs.declared.doors.EdgeAnswer.{EdgeAnswer}
 use Rattle.lcr_core.specs.declared.doors.EdgeAnswer.the-variants as edge
-use Rattle.lcr_core.specs.Doors.{inRange, orRefuse}
+use Rattle.lcr_core.specs.Doors.{inRange}
+use Rattle.laws.specs.Check.{orRefuse}
 use Rattle.lcr_core.specs.declared.version.Version.{Version}
 use Rattle.lcr_core.specs.declared.version.VersionAnswer.{VersionAnswer}
 use Rattle.lcr_core.specs.declared.version.VersionAnswer.the-variants.{Known, Refused}

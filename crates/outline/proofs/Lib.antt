@@ -1,7 +1,6 @@
-pub mod Runs
-pub mod Boundary
-pub mod Points
-pub mod Rounds
-pub mod Outlines
-pub mod Members
-pub mod Controls
+pub mod Cuts
+pub mod Skips
+pub mod Scans
+pub mod Writes
+pub mod Sweeps
+pub mod Doors

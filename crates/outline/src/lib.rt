@@ -1,1 +1,66 @@
 // Boundary points of a box of a picture, and the outline door.
+ghost use mathlib.Core.Path.{_≡_};
+ghost use lib.ListN.{length};
+ghost use Rattle.outline.specs.Door.{checkOutline, doorPoints, answered, listAfter};
+
+mod cells;
+mod checks;
+mod columns;
+mod rows;
+mod stores;
+mod sweep;
+
+// How many boundary points the list holds, or the number of a refusal.
+pub enum Answer {
+    Points(usize),
+    Refused(u32),
+}
+
+// The outline door: stores the boundary points of the box x0 y0 x1 y1 in out, as alternating x and
+// y, for the member pixels of the cells labelled want, or of all labelled cells where want is 0; or
+// refuses, and changes nothing. levels are the thresholds of the level cells, labels the labels of
+// the region cells.
+pub fn outline(
+    s: &[u8],
+    levels: &[u8],
+    labels: &[u32],
+    want: u32,
+    w: usize,
+    h: usize,
+    x0: usize,
+    y0: usize,
+    x1: usize,
+    y1: usize,
+    out: &mut [f32],
+) -> Answer
+    ensures { λ r. ⌜
+        r ≡ answered (checkOutline w h (length (now (s .entry))) x0 y0 x1 y1
+        (length (now (levels .entry))) (length (now (labels .entry)))
+        (length (now (out .entry))))
+        (length (doorPoints want w (now (s .entry)) (now (levels .entry))
+        (now (labels .entry)) x0 y0 x1 y1)) ⌝ }
+    ensures { λ _. ⌜
+        now (out .exit) ≡ listAfter
+        (checkOutline w h (length (now (s .entry))) x0 y0 x1 y1 (length (now (levels .entry)))
+        (length (now (labels .entry))) (length (now (out .entry))))
+        (doorPoints want w (now (s .entry)) (now (levels .entry))
+        (now (labels .entry)) x0 y0 x1 y1) (now (out .entry)) ⌝ }
+{
+    let n = checks::check(
+        w,
+        h,
+        s.len(),
+        x0,
+        y0,
+        x1,
+        y1,
+        levels.len(),
+        labels.len(),
+        out.len(),
+    );
+    if n == 0 {
+        let end = columns::boundary_points(s, levels, labels, want, w, h, x0, y0, x1, y1, out);
+        return Answer::Points(end / 2);
+    }
+    Answer::Refused(n)
+}

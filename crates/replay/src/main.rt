@@ -58,4 +58,5 @@ fn main() {
     area(b"ieee");
     area(b"math");
     area(b"transform");
+    area(b"marks");
 }

@@ -13,7 +13,7 @@ use Rattle.math.specs.declared.Found.{Found}
 use Rattle.math.specs.declared.Found.the-variants.{Refused, Nothing, Solved}
 use Rattle.transform.specs.declared.Transform.{Transform}
 use Rattle.transform.specs.declared.Pixel.{Pixel}
-use Rattle.transform.specs.declared.Offset.{Offset}
+use Rattle.transform.specs.declared.Place.{Place}
 use Rattle.transform.specs.declared.Mapped.{Mapped}
 use Rattle.transform.specs.declared.Mapped.the-variants.{None, Some}
 
@@ -88,21 +88,29 @@ withRadial t cx cy kappa = record {
   kappa = kappa;
 }
 
--- one round towards the sensor's offset whose straightened offset is (ux, uy)
-unfoldable pub bent : Float → Float → Float → Offset → Offset
+-- one round towards the sensor's offset whose straightened offset is u
+unfoldable pub bent : Float → Place → Place → Place
 unfolding div mul add
-bent k ux uy d =
+bent k u d =
     let s = add binary64 one (mul binary64 k (add binary64 (mul binary64 (d .x) (d .x)) (mul binary64 (d .y) (d .y)))) in
-    record { x = div binary64 ux s; y = div binary64 uy s }
+    record { x = div binary64 (u .x) s; y = div binary64 (u .y) s }
 
--- through the lens: four rounds from the straightened offset, then rounded to f32
-unfoldable pub throughLens : Float → Float → Float → Float → Float → Pixel
-unfolding bent narrow
-throughLens cx cy k x y =
-    let ux = sub binary64 x cx in
-    let uy = sub binary64 y cy in
-    let d = bent k ux uy (bent k ux uy (bent k ux uy (bent k ux uy record { x = ux; y = uy }))) in
-    record { x = narrow (add binary64 cx (d .x)); y = narrow (add binary64 cy (d .y)) }
+-- four rounds from the straightened offset u
+unfoldable pub rounds : Float → Place → Place
+unfolding bent
+rounds k u = bent k u (bent k u (bent k u (bent k u u)))
+
+-- about the centre (cx, cy)
+unfoldable pub aboutCentre : Float → Float → Float → Place → Place
+unfolding rounds
+aboutCentre cx cy k p =
+    let d = rounds k record { x = sub binary64 (p .x) cx; y = sub binary64 (p .y) cy } in
+    record { x = add binary64 cx (d .x); y = add binary64 cy (d .y) }
+
+-- through the lens, if there is one
+unfoldable pub throughLens : Float → Float → Float → Place → Place
+unfolding aboutCentre eq
+throughLens cx cy k p = cond (eq k zero) p (aboutCentre cx cy k p)
 
 -- ---- a place's pixel
 -- a divisor kept away from 0: a magnitude below 1e-9 becomes 1e-9, whatever the sign; a NaN stays
@@ -114,11 +122,18 @@ guarded w = cond (lt (abs w) 1e-9) 1e-9 w
 abbrev pub plane : Float → Float → Float → Float → Float → Float
 plane a b c u v = add binary64 (add binary64 (mul binary64 a u) (mul binary64 b v)) c
 
--- (m0 u + m1 v + m2, m3 u + m4 v + m5) / (m6 u + m7 v + 1), then through the lens, if there is one
-unfoldable pub applied : Transform → Float → Float → Pixel
-unfolding guarded throughLens narrow eq
-applied t u v =
+-- (m0 u + m1 v + m2, m3 u + m4 v + m5) / (m6 u + m7 v + 1)
+unfoldable pub flatPlace : Transform → Float → Float → Place
+unfolding guarded
+flatPlace t u v =
     let w = guarded (plane (t .m6) (t .m7) one u v) in
-    let x = div binary64 (plane (t .m0) (t .m1) (t .m2) u v) w in
-    let y = div binary64 (plane (t .m3) (t .m4) (t .m5) u v) w in
-    cond (eq (t .kappa) zero) record { x = narrow x; y = narrow y } (throughLens (t .cx) (t .cy) (t .kappa) x y)
+    record { x = div binary64 (plane (t .m0) (t .m1) (t .m2) u v) w; y = div binary64 (plane (t .m3) (t .m4) (t .m5) u v) w }
+
+-- each coordinate rounded to f32
+abbrev pub rounded : Place → Pixel
+rounded p = record { x = narrow (p .x); y = narrow (p .y) }
+
+-- the place of (u, v), through the lens, rounded
+unfoldable pub applied : Transform → Float → Float → Pixel
+unfolding flatPlace throughLens narrow
+applied t u v = rounded (throughLens (t .cx) (t .cy) (t .kappa) (flatPlace t u v))

@@ -4,7 +4,7 @@ mod corners;
 
 ghost use mathlib.Core.Path.{_≡_};
 ghost use Rattle.transform.specs.Mapping.{homography, fromQuad};
-ghost use Rattle.transform.specs.Mapping.{withRadial, guarded, bent, throughLens, applied};
+ghost use Rattle.transform.specs.Mapping.{withRadial, guarded, flatPlace, bent, throughLens, applied};
 
 // Eight coefficients and three lens numbers, all f64. The pixel of (u, v) is
 // (m0 u + m1 v + m2, m3 u + m4 v + m5) / (m6 u + m7 v + 1), then bent about (cx, cy) by kappa.
@@ -36,8 +36,8 @@ pub struct Pixel {
     pub y: f32,
 }
 
-// An offset from the lens's centre, in pixels.
-pub struct Offset {
+// A place or an offset in f64, in pixels.
+pub struct Place {
     pub x: f64,
     pub y: f64,
 }
@@ -85,30 +85,46 @@ fn guard(w: f64) -> f64
     if ieee::abs64(w) < 1e-9 { 1e-9 } else { w }
 }
 
-// One round towards the sensor's offset whose straightened offset is (ux, uy).
-fn bend(k: f64, ux: f64, uy: f64, d: Offset) -> Offset
-    ensures { λ r. ⌜ r ≡ bent k ux uy d ⌝ }
+// The place of (u, v) without the lens.
+fn flat(t: Transform, u: f64, v: f64) -> Place
+    ensures { λ r. ⌜ r ≡ flatPlace t u v ⌝ }
 {
-    let s = 1.0 + k * (d.x * d.x + d.y * d.y);
-    Offset {
-        x: ux / s,
-        y: uy / s,
+    let w = guard(t.m6 * u + t.m7 * v + 1.0);
+    Place {
+        x: (t.m0 * u + t.m1 * v + t.m2) / w,
+        y: (t.m3 * u + t.m4 * v + t.m5) / w,
     }
 }
 
-// Through the lens: four rounds from the straightened offset.
-fn lens(cx: f64, cy: f64, k: f64, x: f64, y: f64) -> Pixel
-    ensures { λ r. ⌜ r ≡ throughLens cx cy k x y ⌝ }
+// One round towards the sensor's offset whose straightened offset is u.
+fn bend(k: f64, u: Place, d: Place) -> Place
+    ensures { λ r. ⌜ r ≡ bent k u d ⌝ }
 {
-    let ux = x - cx;
-    let uy = y - cy;
-    let d1 = bend(k, ux, uy, Offset { x: ux, y: uy });
-    let d2 = bend(k, ux, uy, d1);
-    let d3 = bend(k, ux, uy, d2);
-    let d4 = bend(k, ux, uy, d3);
-    Pixel {
-        x: ieee::narrowed(cx + d4.x),
-        y: ieee::narrowed(cy + d4.y),
+    let s = 1.0 + k * (d.x * d.x + d.y * d.y);
+    Place {
+        x: u.x / s,
+        y: u.y / s,
+    }
+}
+
+// Through the lens, if there is one: four rounds from the straightened offset.
+fn lens(cx: f64, cy: f64, k: f64, p: Place) -> Place
+    ensures { λ r. ⌜ r ≡ throughLens cx cy k p ⌝ }
+{
+    if k == 0.0 {
+        return p;
+    }
+    let u = Place {
+        x: p.x - cx,
+        y: p.y - cy,
+    };
+    let d1 = bend(k, u, u);
+    let d2 = bend(k, u, d1);
+    let d3 = bend(k, u, d2);
+    let d4 = bend(k, u, d3);
+    Place {
+        x: cx + d4.x,
+        y: cy + d4.y,
     }
 }
 
@@ -136,17 +152,11 @@ impl Transform {
     pub fn apply(self, u: f32, v: f32) -> Pixel
         ensures { λ r. ⌜ r ≡ applied self u v ⌝ }
     {
-        let p = corners::wide(u);
-        let q = corners::wide(v);
-        let w = guard(self.m6 * p + self.m7 * q + 1.0);
-        let x = (self.m0 * p + self.m1 * q + self.m2) / w;
-        let y = (self.m3 * p + self.m4 * q + self.m5) / w;
-        if self.kappa == 0.0 {
-            return Pixel {
-                x: ieee::narrowed(x),
-                y: ieee::narrowed(y),
-            };
+        let p = flat(self, corners::wide(u), corners::wide(v));
+        let q = lens(self.cx, self.cy, self.kappa, p);
+        Pixel {
+            x: ieee::narrowed(q.x),
+            y: ieee::narrowed(q.y),
         }
-        lens(self.cx, self.cy, self.kappa, x, y)
     }
 }

@@ -1,5 +1,5 @@
-use mathlib.Core.Path.{refl}
 use Rattle.transform.specs.Mapping.{bent}
+use mathlib.Core.Path.{refl}
 use Rattle.transform.proofs.bend.Statement.{statement}
 use Rattle.transform.proofs.bend.Tie as tie
 

@@ -1,0 +1,6 @@
+pub mod Runs
+pub mod Boundary
+pub mod Points
+pub mod Outlines
+pub mod Members
+pub mod Controls

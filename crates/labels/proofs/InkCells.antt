@@ -1,0 +1,111 @@
+-- Laws of ink cells: pixels below a threshold counted row by row (row-step, box-step), the count of a cell (cell-ink-is), and marks as ink cells
+-- (marks-inked). Assumes nothing.
+use mathlib.Core.Bool.{Bool, _&&_, cond, false, true}
+use mathlib.Core.List.{List}
+use mathlib.Core.Path.{_∙_, _≡_, ap, refl}
+use Prim.Native.Nat.{_%_, _*_, _+_, _-_, _/_, _<_, _≤_, ℕ}
+use native.Mathlib.Decide.{decLt}
+use native.Mathlib.Nat.{add-assoc, mul-comm, mul-le-mul-right, mul-one}
+use native.Mathlib.Omega.{arith}
+use lib.Dec.{leb, ltb}
+use lib.Ieee.{low}
+use lib.ListN.{List·getD-eq-default, drop, getD, length, length-drop, length-take, take}
+use lib.Seq.{getD-take}
+use borrow.Author.Tests.{le-ltb, lt-ltb}
+use Rattle.labels.specs.Labelling.{Inked}
+use Rattle.labels.specs.Marks.{Inside, Levelled, below, markAt, rowBelow}
+use Rattle.labels.specs.Visits.{MARK}
+use Rattle.laws.proofs.Folds.{fold-ext, fold-suc, getD-written}
+use Rattle.laws.proofs.Planes.{box-ext, box-more, getD-part, part}
+use Rattle.laws.specs.Fold.{bit, fold, sumTo}
+use Rattle.laws.specs.Plane.{Plane, box, boxRow, drawn, plane, rowwise}
+use Rattle.levels.proofs.Hist.{sum-le}
+use Rattle.levels.specs.Level.{cells, inkAt, level}
+use Rattle.levels.specs.Steps.{Picture}
+use Rattle.regions.proofs.Cells.{grid}
+use Rattle.regions.specs.Cells.{cells8, cellsOf, inkCell, inkPixels, span8}
+
+bit-le : (b : Bool) → bit b ≤ 1
+bit-le true = omega arith
+bit-le false = omega arith
+
+-- ---- a row
+pub row-none : (row : List ℕ) (t : ℕ) → sumTo 0 (rowBelow row t) ≡ 0
+unfolding fold
+row-none row t = refl
+
+pub row-step : (row : List ℕ) (t i : ℕ) {n v : ℕ} → n ≡ sumTo i (rowBelow row t) → v ≡ bit (ltb (getD row i 0) t) → n + v ≡ sumTo (i + 1) (rowBelow row t)
+unfolding rowBelow
+row-step row t i en ev = rw (fold-suc, en, ev)
+
+pub row-le : (row : List ℕ) (t i : ℕ) → sumTo i (rowBelow row t) ≤ i
+unfolding rowBelow
+row-le row t i = rw (mul-one i) at (sum-le 1 i (λ k. bit (ltb (getD row k 0) t)) (λ k. bit-le (ltb (getD row k 0) t)))
+
+-- ---- a box
+row-part : (s : List ℕ) (w x0 y lx t : ℕ) → sumTo lx (rowBelow (take lx (drop (y * w + x0) s)) t) ≡ boxRow _+_ 0 (below (plane w s) t) x0 lx y
+unfolding boxRow rowBelow below
+row-part s w x0 y lx t =
+    fold-ext _+_ 0 lx (λ i. bit (ltb (getD (take lx (drop (y * w + x0) s)) i 0) t)) (λ i. bit (ltb (plane w s (x0 + i) y) t))
+    (λ i l. ap (λ (v : ℕ). bit (ltb v t)) (getD-part s (y * w + x0) lx i l ∙ ap (λ (k : ℕ). getD s k 0) (add-assoc (y * w) x0 i)))
+
+pub box-step : (s : List ℕ) (w x0 y0 lx j t : ℕ) {n r : ℕ} → (y0 + j) * w + x0 + lx ≤ length s → n ≡ box _+_ 0 (below (plane w s) t) x0 y0 lx j
+    → r ≡ sumTo (length (part ((y0 + j) * w + x0) ((y0 + j) * w + x0 + lx) s)) (rowBelow (part ((y0 + j) * w + x0) ((y0 + j) * w + x0 + lx) s) t)
+    → n + r ≡ box _+_ 0 (below (plane w s) t) x0 y0 lx (j + 1)
+box-step s w x0 y0 lx j t room en er =
+    let d : (y0 + j) * w + x0 + lx - ((y0 + j) * w + x0) ≡ lx = omega arith in
+    let m : length (take lx (drop ((y0 + j) * w + x0) s)) ≡ lx = simp (length-take, length-drop) (omega arith) in
+    let row = rw (d, m) at er in
+    rw (box-more, en, row, row-part)
+
+pub box-le : (p : Plane) (x0 y0 lx ly t : ℕ) → box _+_ 0 (below p t) x0 y0 lx ly ≤ ly * lx
+unfolding box boxRow below
+box-le p x0 y0 lx ly t =
+    sum-le lx ly (λ j. fold _+_ 0 lx (λ i. bit (ltb (p (x0 + i) (y0 + j)) t)))
+    (λ j. rw (mul-one lx) at (sum-le 1 lx (λ i. bit (ltb (p (x0 + i) (y0 + j)) t)) (λ i. bit-le (ltb (p (x0 + i) (y0 + j)) t))))
+
+-- ---- a cell
+half : (c i : ℕ) → i < 8 → (8 * c + i) / 16 ≡ c / 2
+half c i l = omega arith
+
+pub inside-cell : {s : List ℕ} {w h lx ly : ℕ} → Picture s w h → (cx cy : ℕ) → 8 * cx < w → 8 * cy < h → lx ≡ span8 w cx → ly ≡ span8 h cy
+    → Inside s w (8 * cx) (8 * cy) lx ly
+inside-cell {s} {w} {h} {lx} {ly} p cx cy lw lh ex ey = record {
+  wide = omega arith;
+  high = omega arith;
+  right = omega arith;
+  low = omega (arith, p .h-high);
+  bottom = omega (arith, mul-le-mul-right {m = 8 * cy + ly} {n = h} w (omega arith), mul-comm w h, p .count);
+}
+
+pub cell-ink-is : {s grid : List ℕ} {w h : ℕ} → Levelled s w h grid → (cx cy : ℕ) {t lx ly : ℕ} → 8 * cx < w → 8 * cy < h
+    → t ≡ plane (cells w) grid (cx / 2) (cy / 2) → lx ≡ span8 w cx → ly ≡ span8 h cy
+    → box _+_ 0 (below (plane w s) t) (8 * cx) (8 * cy) lx ly ≡ inkPixels (plane w s) w h cx cy
+unfolding inkPixels below inkAt
+cell-ink-is {s} {grid} {w} {h} held cx cy {t} lw lh et ex ey =
+    let p = plane w s in
+    let level-t : t ≡ level p w h (cx / 2) (cy / 2) = et ∙ held .held (cx / 2) (cy / 2) (omega arith) (omega arith) in
+    rw (ex, ey)
+    (box-ext _+_ 0 (λ x y. bit (ltb (p x y) t)) (λ x y. bit (ltb (p x y) (level p w h (x / 16) (y / 16)))) (8 * cx) (8 * cy) (span8 w cx) (span8 h cy)
+    (λ i j li lj. rw (half cx i (omega arith), half cy j (omega arith), level-t)))
+
+-- ---- marks
+pub marks-inked : (p : Plane) (w h : ℕ) (l old : List ℕ) → l ≡ drawn (cells8 w) (cells8 h) (markAt p w h) old → Inked (inkCell p w h) (take (cellsOf w h) l)
+unfolding Inked inkCell markAt
+marks-inked p w h l old e c = go (decLt c (cellsOf w h))
+  where
+    n : ℕ
+    n = cellsOf w h
+
+    go : Dec (c < cellsOf w h)
+        → getD (take (cellsOf w h) l) c 0 ≡ cond (ltb c (cellsOf w h) && leb 4 (inkPixels p w h (c % cells8 w) (c / cells8 w))) MARK 0
+    go (yes b) =
+        let b′ : c < cells8 w * cells8 h = rw (mul-comm (cells8 h) (cells8 w)) at b in
+        let t : ltb c (cellsOf w h) ≡ true = lt-ltb c (cellsOf w h) b in
+        getD-take (cellsOf w h) l c 0 b
+        ∙ ap (λ (k : List ℕ). getD k c 0) e
+        ∙ getD-written (cells8 w * cells8 h) (rowwise (cells8 w) (markAt p w h)) old c 0 b′
+        ∙ rw t
+    go (no b) =
+        let t : ltb c (cellsOf w h) ≡ false = le-ltb c (cellsOf w h) (omega arith) in
+        List·getD-eq-default (take (cellsOf w h) l) 0 (simp length-take (omega arith)) ∙ rw t

@@ -1,0 +1,5 @@
+pub mod VisitLaws
+pub mod Window
+pub mod FillLaws
+pub mod Labellings
+pub mod InkCells

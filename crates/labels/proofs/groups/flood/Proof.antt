@@ -1,0 +1,149 @@
+use mathlib.Core.Bool.{true}
+use mathlib.Core.Path.{_≡_, refl}
+use Prim.Native.Nat.{_*_, _+_, _-_}
+use native.Mathlib.Omega.{arith}
+use lib.ListN.{getD}
+use borrow.Author.Needs.{needs}
+use Rattle.labels.proofs.VisitLaws.{Flow, down-safe, flow-turn, or-at, or-full, run-sum, safe-begin, step-safe}
+use Rattle.labels.specs.Visits.{begin, fills, marks, stops}
+use Rattle.laws.specs.Fold.{first}
+use Rattle.regions.proofs.Sizes.{size}
+use Rattle.regions.specs.Labels.{near}
+use Rattle.labels.proofs.groups.flood.Statement.{statement}
+use Rattle.labels.proofs.groups.flood.Tie as tie
+
+abbrev Inv-loop : tie.InvT-loop
+Inv-loop labels₀ stack₀ s w h v first k₀ labels stack k = Flow (near w) v (h * w) labels₀ stack₀ k₀ labels stack k
+
+abbrev μ-loop : tie.MeasureT-loop
+μ-loop labels₀ stack₀ s w h v first k₀ labels stack k = k + marks labels
+
+visit-requires : tie.Need-visit-requires Inv-loop μ-loop
+visit-requires c κs = (safe-begin _ _, omega arith)
+
+enum-known-first : tie.Need-enum-known-first Inv-loop μ-loop
+enum-known-first c = search needs
+
+enum-told : tie.Need-enum-told Inv-loop μ-loop
+enum-told c = search needs
+
+same-length : tie.Need-same-length Inv-loop μ-loop
+same-length c = search needs
+
+same-length-2 : tie.Need-same-length-2 Inv-loop μ-loop
+same-length-2 c = search needs
+
+returns : tie.Need-returns Inv-loop μ-loop
+returns c = stops (or-full (c .before .before .before .before .before .before .visit .ensures) (c .enum-told .given .1))
+
+loop-holds : tie.Need-loop-holds Inv-loop μ-loop
+loop-holds c =
+    let e = c .before .before .before .before .before .before .before .before .before .before .before .before in
+    let r = c .before .before .before .before .before .before .before .visit in
+    record {
+      done = begin;
+      safe = step-safe (e .args .v) (λ p. omega (arith, e .pre)) (or-at (r .ensures) (c .before .first .given .1)) (safe-begin _ _);
+      size = omega (arith, r .kept .0, e .pre);
+      same-stack = refl;
+    }
+
+sub-k : tie.Need-sub-k Inv-loop μ-loop
+sub-k c = search needs
+
+mul-i : tie.Need-mul-i Inv-loop μ-loop
+mul-i c = search needs
+
+slice-read-i : tie.Need-slice-read-i Inv-loop μ-loop
+slice-read-i c = search needs
+
+cast-i : tie.Need-cast-i Inv-loop μ-loop
+cast-i c = omega (arith, c .slice-known5 .given (c .before .before .loop .k - 1))
+
+visit-near-requires : tie.Need-visit-near-requires Inv-loop μ-loop
+visit-near-requires c κs =
+    let e = c .before .before .before .before .before .before .before .before .before .before .before .before .before .before .before .before .before in
+    let q = c .before .before .before .before .loop in
+    (down-safe _ _ (q .k) (q .inv .safe), (q .inv .safe .below (q .k - 1) (omega arith), q .inv .size, omega (arith, q .inv .size, e .pre), omega (arith, e .pre), omega (arith, e .pre)))
+
+enum-known-next : tie.Need-enum-known-next Inv-loop μ-loop
+enum-known-next c = search needs
+
+enum-told-2 : tie.Need-enum-told-2 Inv-loop μ-loop
+enum-told-2 c = search needs
+
+same-length-3 : tie.Need-same-length-3 Inv-loop μ-loop
+same-length-3 c = search needs
+
+same-length-4 : tie.Need-same-length-4 Inv-loop μ-loop
+same-length-4 c = search needs
+
+returns-2 : tie.Need-returns-2 Inv-loop μ-loop
+returns-2 c =
+    let e = c .before .before .before .before .before .before .before .before .before .before .before .before .before .before .before .before .before .before .before .before .before .before .before .before in
+    let q = c .before .before .before .before .before .before .before .before .before .before .before .loop .inv in
+    let t = or-full (c .before .before .before .before .before .before .visit-near .ensures) (c .enum-told2 .given .1) in
+    stops (omega (arith, t, q .size, q .same-stack, c .before .before .before .before .before .before .before .before .before .before .before .before .before .before .before .before .before .before .before .visit .kept .1 .0, e .pre))
+
+loop-less : tie.Need-loop-less Inv-loop μ-loop
+loop-less c =
+    let e = c .before .before .before .before .before .before .before .before .before .before .before .before .before .before .before .before .before .before .before .before .before .before .before .before .before in
+    let q = c .before .before .before .before .before .before .before .before .before .before .before .before .loop in
+    let t = or-at (c .before .before .before .before .before .before .before .visit-near .ensures) (c .before .next .given .1) in
+    omega (arith, run-sum (e .args .v) (λ p. omega (arith, e .pre)) (λ j. near (e .args .w) (getD (q .stack) (q .k - 1) 0) j ≡ true) (t .ran))
+
+loop-again : tie.Need-loop-again Inv-loop μ-loop
+loop-again c =
+    let e = c .before .before .before .before .before .before .before .before .before .before .before .before .before .before .before .before .before .before .before .before .before .before .before .before .before in
+    let q = c .before .before .before .before .before .before .before .before .before .before .before .before .loop in
+    let r = c .before .before .before .before .before .before .before .visit-near in
+    let t = or-at (r .ensures) (c .before .next .given .1) in
+    flow-turn (λ p. omega (arith, e .pre)) (q .inv) (omega arith) (t .ran) (t .shut) (r .kept .1 .0)
+
+same-length-5 : tie.Need-same-length-5 Inv-loop μ-loop
+same-length-5 c = search needs
+
+same-length-6 : tie.Need-same-length-6 Inv-loop μ-loop
+same-length-6 c = search needs
+
+returns-3 : tie.Need-returns-3 Inv-loop μ-loop
+returns-3 c =
+    let e = c .before .before .before .before .before .before .before .before .before .before .before .before .before .before in
+    let r = c .before .before .before .before .before .before .before .before .before .visit in
+    let q = c .before .loop in
+    let z : q .k ≡ 0 = omega arith in
+    fills (record {
+      mid = r .last .0;
+      mid-stack = r .last .1 .0;
+      depth = c .before .before .before .first .given .0 .0;
+      entry = or-at (r .ensures) (c .before .before .before .first .given .1);
+      rest = rw z at (q .inv .done);
+    })
+
+pub flood-spec : {M : Type 1} → statement M
+flood-spec =
+    tie.close
+    (tie.spec
+    Inv-loop
+    μ-loop
+    visit-requires
+    enum-known-first
+    enum-told
+    same-length
+    same-length-2
+    returns
+    loop-holds
+    sub-k
+    mul-i
+    slice-read-i
+    cast-i
+    visit-near-requires
+    enum-known-next
+    enum-told-2
+    same-length-3
+    same-length-4
+    returns-2
+    loop-less
+    loop-again
+    same-length-5
+    same-length-6
+    returns-3)

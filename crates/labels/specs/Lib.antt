@@ -1,0 +1,3 @@
+pub mod Visits
+pub mod Labelling
+pub mod Marks

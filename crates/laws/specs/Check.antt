@@ -1,0 +1,7 @@
+-- Checks of a door (document 01's word for a public entry), in the order of its table. Definitions only. Assumes nothing.
+use mathlib.Core.Bool.{Bool, true, false}
+
+-- What follows where a check passes, else the refusal.
+abbrev pub orRefuse : {A : Type 0} → Bool → A → A → A
+orRefuse true refusal rest = rest
+orRefuse false refusal rest = refusal

@@ -1,0 +1,106 @@
+-- Levels of all cells, pooled to thresholds, and eight passes over these: level-drawn puts the three together. Assumes nothing.
+use mathlib.Core.Path.{_∙_, _≡_, ap, refl}
+use Prim.Native.Nat.{_*_}
+use lib.ListN.{drop}
+use borrow.Author.Needs.{needs}
+use denote.Ref.{now}
+use Rattle.laws.proofs.Folds.{drop-written}
+use Rattle.laws.specs.Plane.{drawn, plane, rowwise}
+use Rattle.levels.proofs.Near.{darks-bytes, grid-of, level-drawn, level-is, lights-bytes}
+use Rattle.levels.specs.Level.{cells, dark, light, passes, sharp}
+use Rattle.levels.proofs.level_grid.Statement.{statement}
+use Rattle.levels.proofs.level_grid.Tie as tie
+
+level-cells-requires : tie.Need-level-cells-requires
+level-cells-requires c κs = search needs
+
+cells-of-requires : tie.Need-cells-of-requires
+cells-of-requires c κs = search needs
+
+cells-of-requires-2 : tie.Need-cells-of-requires-2
+cells-of-requires-2 c κs = search needs
+
+sharp-requires : tie.Need-sharp-requires
+sharp-requires c κs =
+    let k = c .before .before .before .before .before .before .before .before .before .level-cells in
+    let p = c .before .before .before .before .before .before .before .before .before .before .before .before .before .before .before .before in
+    let a = p .args in
+    let ew = c .before .before .before .before .cells-of .ensures in
+    let eh = c .before .before .before .cells-of2 .ensures in
+    let q = p .pre .0 in
+    let r = p .pre .1 in (
+      grid-of ew eh (q .w-high) (q .h-high) (r .first) (k .kept .1 .1 .1 .0),
+      (
+        grid-of ew eh (q .w-high) (q .h-high) (r .second) (k .kept .1 .1 .1 .1 .0),
+        (
+          grid-of ew eh (q .w-high) (q .h-high) (r .grids) refl,
+          (
+            darks-bytes (plane (a .w) (now (a .s))) (a .w) (a .h) (now (a .darks)) ew eh (k .ensures .0),
+            lights-bytes (plane (a .w) (now (a .s))) (a .w) (a .h) (now (a .lights)) ew eh (k .ensures .1),
+          ),
+        ),
+      ),
+    )
+
+fill-passes-requires : tie.Need-fill-passes-requires
+fill-passes-requires c κs =
+    let k = c .before .before .before .before .before .before .before .before .before .before .before .before .before .before .before .before .before .before .level-cells in
+    let s = c .before .before .before .before .before .before .before .before .sharp in
+    let p = c .before .before .before .before .before .before .before .before .before .before .before .before .before .before .before .before .before .before .before .before .before .before .before .before .before in
+    let ew = c .before .before .before .before .before .before .before .before .before .before .before .before .before .cells-of .ensures in
+    let eh = c .before .before .before .before .before .before .before .before .before .before .before .before .cells-of2 .ensures in
+    let q = p .pre .0 in
+    let r = p .pre .1 in (
+      grid-of ew eh (q .w-high) (q .h-high) (r .grids) (s .kept .1 .1 .0),
+      grid-of ew eh (q .w-high) (q .h-high) (r .first) (s .kept .0 ∙ k .kept .1 .1 .1 .0),
+    )
+
+same-length : tie.Need-same-length
+same-length c = search needs
+
+same-length-2 : tie.Need-same-length-2
+same-length-2 c = search needs
+
+same-length-3 : tie.Need-same-length-3
+same-length-3 c = search needs
+
+returns : tie.Need-returns
+returns c =
+    let f = c .before .before .before .before .fill-passes in
+    let s = c .before .before .before .before .before .before .before .before .before .before .before .before .before .sharp in
+    let k = c .before .before .before .before .before .before .before .before .before .before .before .before .before .before .before .before .before .before .before .before .before .before .before .level-cells in
+    let a = c .before .before .before .before .before .before .before .before .before .before .before .before .before .before .before .before .before .before .before .before .before .before .before .before .before .before .before .before .before .before .args in
+    let ew = c .before .before .before .before .before .before .before .before .before .before .before .before .before .before .before .before .before .before .cells-of .ensures in
+    let eh = c .before .before .before .before .before .before .before .before .before .before .before .before .before .before .before .before .before .cells-of2 .ensures in
+    let w = cells (a .w) in
+    let h = cells (a .h) in
+    let d = dark (plane (a .w) (now (a .s))) (a .w) (a .h) in
+    let l = light (plane (a .w) (now (a .s))) (a .w) (a .h) in
+    let ds = k .last .1 .1 .1 .0 in
+    let ls = k .last .1 .1 .1 .1 .0 in
+    let grid = s .last .1 .1 .0 in
+    let over : grid ≡ drawn w h (sharp w h (plane w ds) (plane w ls)) (now (a .grid)) = rw (ew, eh) at (s .ensures .0) in
+    let last : f .last .0 ≡ drawn w h (passes w h 8 (plane w grid)) grid = rw (ew, eh) at (f .ensures .0) in
+    let past₁ : drop (w * h) (s .last .0) ≡ drop (w * h) ds = rw (ew, eh) at (s .ensures .1 .0) in
+    let past₂ : drop (w * h) (f .last .1 .0) ≡ drop (w * h) (s .last .0) = rw (ew, eh) at (f .ensures .1) in
+    let past₃ : drop (w * h) (s .last .1 .0) ≡ drop (w * h) ls = rw (ew, eh) at (s .ensures .1 .1) in (
+      last ∙ level-drawn w h d l ds (now (a .darks)) ls (now (a .lights)) (now (a .grid)) grid (k .ensures .0) (k .ensures .1) over ∙ rw level-is,
+      (
+        past₂ ∙ past₁ ∙ ap (drop (w * h)) (k .ensures .0) ∙ drop-written (w * h) (rowwise w d) (now (a .darks)),
+        past₃ ∙ ap (drop (w * h)) (k .ensures .1) ∙ drop-written (w * h) (rowwise w l) (now (a .lights)),
+      ),
+    )
+
+pub level-grid-spec : {M : Type 1} → statement M
+level-grid-spec =
+    tie.close
+    (tie.spec
+    level-cells-requires
+    cells-of-requires
+    cells-of-requires-2
+    sharp-requires
+    fill-passes-requires
+    same-length
+    same-length-2
+    same-length-3
+    returns)

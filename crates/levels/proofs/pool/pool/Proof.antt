@@ -1,0 +1,40 @@
+-- Across, then down, is the pool (pooled-drawn). Assumes nothing.
+use mathlib.Core.Path.{_∙_, ap}
+use Prim.Native.Nat.{_*_}
+use lib.ListN.{drop}
+use borrow.Author.Needs.{needs}
+use denote.Ref.{now}
+use Rattle.laws.proofs.Folds.{drop-written}
+use Rattle.laws.specs.Plane.{plane, rowwise}
+use Rattle.levels.proofs.Pools.{pooled-drawn}
+use Rattle.levels.specs.Steps.{across, down}
+use Rattle.levels.proofs.pool.pool.Statement.{statement}
+use Rattle.levels.proofs.pool.pool.Tie as tie
+
+pool-across-requires : tie.Need-pool-across-requires
+pool-across-requires c κs = search needs
+
+pool-down-requires : tie.Need-pool-down-requires
+pool-down-requires c κs = search needs
+
+same-length : tie.Need-same-length
+same-length c = search needs
+
+same-length-2 : tie.Need-same-length-2
+same-length-2 c = search needs
+
+returns : tie.Need-returns
+returns c =
+    let down = c .before .before .pool-down in
+    let over = c .before .before .before .before .before .before .before .pool-across in
+    let a = c .before .before .before .before .before .before .before .before .before .before .before .before .args in (
+      pooled-drawn (a .most) (a .w) (a .h) (now (a .g)) (now (a .mid)) (over .last .1 .0) (down .last .1 .0) (over .ensures) (down .ensures .0),
+      (
+        down .ensures .1,
+        ap (drop (a .w * a .h)) (over .ensures) ∙ drop-written (a .w * a .h) (rowwise (a .w) (across (a .most) (a .w) (plane (a .w) (now (a .g))))) (now (a .mid)),
+      ),
+    )
+
+pub pool-spec : {M : Type 1} → statement M
+pool-spec =
+    tie.close (tie.spec pool-across-requires pool-down-requires same-length same-length-2 returns)

@@ -1,0 +1,69 @@
+-- Both lists are pooled, and thresholds of pooled lists are the definition's (pairwise-drawn). Assumes nothing.
+use mathlib.Core.Bool.{false, true}
+use mathlib.Core.List.{List, _++_}
+use mathlib.Core.Path.{_∙_, ap}
+use Prim.Native.Nat.{_*_, ℕ}
+use lib.ListN.{drop}
+use borrow.Author.Needs.{needs}
+use denote.Ref.{now}
+use Rattle.laws.proofs.Folds.{drop-written}
+use Rattle.laws.specs.Fold.{tab}
+use Rattle.laws.specs.Plane.{plane, rowwise}
+use Rattle.levels.proofs.Pools.{pairwise-drawn}
+use Rattle.levels.specs.Level.{sharp}
+use Rattle.levels.specs.Steps.{pooled}
+use Rattle.levels.proofs.pool.sharp.Statement.{statement}
+use Rattle.levels.proofs.pool.sharp.Tie as tie
+
+pool-requires : tie.Need-pool-requires
+pool-requires c κs = search needs
+
+pool-requires-2 : tie.Need-pool-requires-2
+pool-requires-2 c κs =
+    let p = c .before .before .before .before .before .before .before .before .before .before .before .before .pre in
+    (p .1 .0, (p .1 .1 .1 .1, record { wide = p .1 .1 .0 .wide; high = p .1 .1 .0 .high; room = rw (c .before .before .before .before .before .before .pool .kept .1 .0) (p .1 .1 .0 .room) }))
+
+mul-thresholds : tie.Need-mul-thresholds
+mul-thresholds c = search needs
+
+thresholds-requires : tie.Need-thresholds-requires
+thresholds-requires c κs = search needs
+
+same-length : tie.Need-same-length
+same-length c = search needs
+
+same-length-2 : tie.Need-same-length-2
+same-length-2 c = search needs
+
+same-length-3 : tie.Need-same-length-3
+same-length-3 c = search needs
+
+returns : tie.Need-returns
+returns c =
+    let a = c .before .before .before .before .before .before .before .before .before .before .before .before .before .before .before .before .before .before .before .before .before .before .before .args in
+    let darks = c .before .before .before .before .before .before .before .before .before .before .before .before .before .before .before .before .before .pool in
+    let lights = c .before .before .before .before .before .before .before .before .before .before .pool2 in
+    let n = a .w * a .h in (
+      c .before .before .thresholds .ensures
+          ∙ pairwise-drawn (a .w) (a .h) (now (a .darks)) (now (a .lights)) (now (a .darks)) (now (a .lights)) (darks .last .0) (lights .last .0) _
+          (darks .ensures .0) (lights .ensures .0)
+          ∙ ap (λ (l : List ℕ). tab n (rowwise (a .w) (sharp (a .w) (a .h) (plane (a .w) (now (a .darks))) (plane (a .w) (now (a .lights))))) ++ l)
+          (lights .ensures .1 .1 ∙ darks .ensures .1 .1),
+      (
+        ap (drop n) (darks .ensures .0) ∙ drop-written n (rowwise (a .w) (pooled false (a .w) (a .h) (plane (a .w) (now (a .darks))))) (now (a .darks)),
+        ap (drop n) (lights .ensures .0) ∙ drop-written n (rowwise (a .w) (pooled true (a .w) (a .h) (plane (a .w) (now (a .lights))))) (now (a .lights)),
+      ),
+    )
+
+pub sharp-spec : {M : Type 1} → statement M
+sharp-spec =
+    tie.close
+    (tie.spec
+    pool-requires
+    pool-requires-2
+    mul-thresholds
+    thresholds-requires
+    same-length
+    same-length-2
+    same-length-3
+    returns)

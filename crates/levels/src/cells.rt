@@ -1,0 +1,154 @@
+// The dark and light levels of the level cells, 16 by 16 pixels each, from bins of pixel values.
+ghost use mathlib.Core.Path.{_≡_};
+ghost use Prim.Native.Nat.{ℕ, _+_, _*_, _≤_, _<_};
+ghost use lib.ListN.{length, getD};
+ghost use Rattle.laws.specs.Plane.{plane, drawn, binsOf};
+ghost use Rattle.levels.specs.Level.{countRows, lowBin, highBin, span, cells, dark, light};
+ghost use Rattle.levels.specs.Steps.{Picture, Within, Bins, Paired, AtMost, sums, more, Bytes};
+
+// Adds the bytes of a row of at most 16 pixels to two arrays of bins, by turns: two stores in a
+// row never wait for each other.
+fn count_pairs(row: &[u8], even: &mut [u32; 32], odd: &mut [u32; 32])
+    requires { ⌜ length (now row) ≤ 16 ⌝ }
+    requires { ⌜ (length (now even) ≡ 32) × (length (now odd) ≡ 32) ⌝ }
+    requires { ⌜ AtMost 240 (sums (now even) (now odd)) ⌝ }
+    ensures { λ _. ⌜ Paired (more (now (row .entry)) (now (even .entry)) (now (odd .entry))) (now (even .exit)) (now (odd .exit)) ⌝ }
+{
+    let mut i = 0;
+    while i + 1 < row.len() {
+        let a = (row[i] / 8) as usize;
+        even[a] += 1;
+        let b = (row[i + 1] / 8) as usize;
+        odd[b] += 1;
+        i += 2;
+    }
+    if i < row.len() {
+        let a = (row[i] / 8) as usize;
+        even[a] += 1;
+    }
+}
+
+// The sums of two arrays of bins.
+fn merged(a: &[u32; 32], b: &[u32; 32]) -> [u32; 32]
+    requires { ⌜ AtMost 256 (sums (now a) (now b)) ⌝ }
+    ensures { λ r. ⌜ Bins (sums (now (a .entry)) (now (b .entry))) r ⌝ }
+{
+    let mut r = [0u32; 32];
+    let mut i = 0;
+    while i < 32 {
+        r[i] = a[i] + b[i];
+        i += 1;
+    }
+    r
+}
+
+// The bins of the part of a picture that is lx wide and ly high, from x0 and y0.
+fn count_cell(s: &[u8], w: usize, x0: usize, y0: usize, lx: usize, ly: usize) -> [u32; 32]
+    requires { ⌜ Within (now s) w x0 y0 lx ly ⌝ }
+    ensures { λ r. ⌜ Bins (countRows (plane w (now (s .entry))) x0 y0 lx ly) r ⌝ }
+{
+    let mut even = [0u32; 32];
+    let mut odd = [0u32; 32];
+    let mut j = 0;
+    while j < ly {
+        let a = (y0 + j) * w + x0;
+        let e = a + lx;
+        count_pairs(&s[a..e], &mut even, &mut odd);
+        j += 1;
+    }
+    merged(&even, &odd)
+}
+
+// The first bin from below where the running count exceeds cut, else 31.
+fn low_bin(bins: &[u32; 32], cut: u32) -> usize
+    requires { ⌜ AtMost 256 (binsOf (now bins)) ⌝ }
+    ensures { λ r. ⌜ r ≡ lowBin (binsOf (now (bins .entry))) cut ⌝ }
+    ensures { λ r. ⌜ r ≤ 31 ⌝ }
+{
+    let mut acc: u32 = 0;
+    let mut b = 0;
+    while b < 31 {
+        acc += bins[b];
+        if cut < acc {
+            return b;
+        }
+        b += 1;
+    }
+    31
+}
+
+// The first bin from above where the running count exceeds cut, else 0.
+fn high_bin(bins: &[u32; 32], cut: u32) -> usize
+    requires { ⌜ AtMost 256 (binsOf (now bins)) ⌝ }
+    ensures { λ r. ⌜ r ≡ highBin (binsOf (now (bins .entry))) cut ⌝ }
+    ensures { λ r. ⌜ r ≤ 31 ⌝ }
+{
+    let mut acc: u32 = 0;
+    let mut k = 0;
+    while k < 31 {
+        acc += bins[31 - k];
+        if cut < acc {
+            return 31 - k;
+        }
+        k += 1;
+    }
+    0
+}
+
+// How many pixels of level cell c lie on a side of n.
+fn span_of(n: usize, c: usize) -> usize
+    requires { ⌜ 16 * c < n ⌝ }
+    ensures { λ r. ⌜ r ≡ span n c ⌝ }
+{
+    let left = n - 16 * c;
+    if left < 16 { left } else { 16 }
+}
+
+// The dark and light level of one cell: 8 times its low bin, 8 times its high bin and 7.
+pub struct Levels {
+    pub dark: u8,
+    pub light: u8,
+}
+
+fn cell_levels(s: &[u8], w: usize, h: usize, cx: usize, cy: usize) -> Levels
+    requires { ⌜ Picture (now s) w h ⌝ }
+    requires { ⌜ (16 * cx < w) × (16 * cy < h) ⌝ }
+    ensures { λ r. ⌜ (r .dark ≡ dark (plane w (now (s .entry))) w h cx cy) × (r .light ≡ light (plane w (now (s .entry))) w h cx cy) ⌝ }
+{
+    let lx = span_of(w, cx);
+    let ly = span_of(h, cy);
+    let bins = count_cell(s, w, 16 * cx, 16 * cy, lx, ly);
+    let cut = (lx * ly / 20) as u32;
+    let low = low_bin(&bins, cut);
+    let high = high_bin(&bins, cut);
+    Levels {
+        dark: (8 * low) as u8,
+        light: (8 * high + 7) as u8,
+    }
+}
+
+// How many level cells a side has.
+pub fn cells_of(n: usize) -> usize
+    requires { ⌜ n ≤ 4096 ⌝ }
+    ensures { λ r. ⌜ r ≡ cells n ⌝ }
+{
+    (n + 15) / 16
+}
+
+// The dark and light levels of every cell.
+pub fn level_cells(s: &[u8], w: usize, h: usize, darks: &mut [u32], lights: &mut [u32])
+    requires { ⌜ Picture (now s) w h ⌝ }
+    requires { ⌜ (cells w * cells h ≤ length (now darks)) × (cells w * cells h ≤ length (now lights)) ⌝ }
+    ensures { λ _. ⌜ now (darks .exit) ≡ drawn (cells w) (cells h) (dark (plane w (now (s .entry))) w h) (now (darks .entry)) ⌝ }
+    ensures { λ _. ⌜ now (lights .exit) ≡ drawn (cells w) (cells h) (light (plane w (now (s .entry))) w h) (now (lights .entry)) ⌝ }
+{
+    let cw = cells_of(w);
+    let n = cw * cells_of(h);
+    let mut k = 0;
+    while k < n {
+        let v = cell_levels(s, w, h, k % cw, k / cw);
+        darks[k] = v.dark as u32;
+        lights[k] = v.light as u32;
+        k += 1;
+    }
+}

@@ -1,0 +1,10 @@
+pub mod Answers
+pub mod Bests
+pub mod MarkLists
+pub mod MarkMoves
+pub mod Poses
+pub mod PosesMoved
+pub mod Rises
+pub mod Splits
+pub mod Walks
+pub mod Windows

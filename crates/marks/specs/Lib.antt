@@ -1,0 +1,6 @@
+pub mod Claims
+pub mod Classify
+pub mod Correlate
+pub mod Doors
+pub mod Pose
+pub mod Split

@@ -1,0 +1,192 @@
+-- What the sweeps over a strip of columns keep. The invariant Stepped of a row (stepped-begin, stepped-turn), the thresholds (cuts-turn),
+-- the invariant
+-- Swept of a strip (swept-begin, swept-turn, part-turn, swept-early, swept-most), and the points found (column-none, column-is,
+-- columns-are,
+-- columns-none). Assumes nothing.
+use mathlib.Core.Path.{_≡_, refl, sym, ap, _∙_, subst}
+use mathlib.Core.Bool.{Bool, true, false, cond}
+use mathlib.Core.List.{List, [], _∷_, _++_, map, append-nil}
+use mathlib.Core.Logic.{_⊎_, inl, inr, ⊎-elim}
+use Prim.Native.Nat.{ℕ, zero, suc, _+_, _-_, _*_, _/_, _≤_, _<_}
+use native.Mathlib.Nat.{eq-or-lt-of-le, not-suc-le-zero}
+use native.Mathlib.Omega.{arith}
+use lib.Dec.{ltb, leb, lit≤}
+use lib.ListN.{length, getD, set, drop, take, length-set, length-take, length-drop, replicate, getD-replicate, length-replicate}
+use lib.Seq.{getD-set-same, getD-set-other, getD-take, getD-drop}
+use borrow.Author.Tests.{le-leb, lt-leb, lt-ltb, le-ltb}
+use Rattle.laws.proofs.Bools.{le-or-lt}
+use Rattle.boundary.specs.Runs.{runStart, runEnd, edges}
+use Rattle.boundary.specs.Boundary.{memberAt, joined, down, columnPoints, columnsFrom}
+use Rattle.outline.specs.Scan.{toward, columnLine, scanStep, scan, columnFound, columnsFound, cutOf, CutRow, Stepped, Swept, AtMost}
+use Rattle.outline.proofs.Scans.{scan-begin, scan-more, scan-le, scan-stays, start-found, start-none, end-found}
+use Rattle.outline.proofs.Cuts.{member-cut}
+use Rattle.outline.proofs.Writes.{joined-ext}
+
+-- ---- a run that is found stays found
+pub scan-early : (m : ℕ → Bool) (i n r : ℕ) → 4 ≤ r → r ≡ scan 4 m i → i ≤ n → r ≡ scan 4 m n
+scan-early m i n r h e l =
+    let z : i + (n - i) ≡ n = omega arith in
+    e ∙ sym (scan-stays m 4 i (n - i) (subst (λ (q : ℕ). 4 ≤ q) e h)) ∙ ap (scan 4 m) z
+
+-- ---- a row of a strip
+pub stepped-begin : (row cuts old : List ℕ) (k : ℕ) → length old ≡ 64 → Stepped row cuts old k 0 old
+stepped-begin row cuts old k e = record { size = e; done = λ j l. absurd (not-suc-le-zero l); left = λ j l. refl }
+
+pub stepped-turn : {row cuts old new : List ℕ} {k i : ℕ} (r : ℕ) → Stepped row cuts old k i new → i < 64
+    → r ≡ scanStep 4 (getD new i 0) (ltb (getD row i 0) (getD cuts i 0)) k → Stepped row cuts old k (i + 1) (set new i r)
+stepped-turn {row} {cuts} {old} {new} {k} {i} r s l e = record {
+  size = length-set new i r ∙ s .size;
+  done = λ j h. go j (eq-or-lt-of-le h);
+  left = λ j h. getD-set-other new i j r 0 (λ q. omega arith) ∙ s .left j (omega arith);
+}
+  where
+    here : getD (set new i r) i 0 ≡ scanStep 4 (getD old i 0) (ltb (getD row i 0) (getD cuts i 0)) k
+    here =
+        getD-set-same new i r 0 (omega (arith, s .size)) ∙ e
+        ∙ ap (λ (q : ℕ). scanStep 4 q (ltb (getD row i 0) (getD cuts i 0)) k) (s .left i (omega arith))
+
+    go : (j : ℕ) → (suc j ≡ i + 1) ⊎ (suc j < i + 1)
+        → getD (set new i r) j 0 ≡ scanStep 4 (getD old j 0) (ltb (getD row j 0) (getD cuts j 0)) k
+    go j (inl q) =
+        let z : i ≡ j = omega arith in
+        subst (λ (q : ℕ). getD (set new i r) q 0 ≡ scanStep 4 (getD old q 0) (ltb (getD row q 0) (getD cuts q 0)) k) z here
+    go j (inr q) = getD-set-other new i j r 0 (λ e. omega arith) ∙ s .done j (omega arith)
+
+-- ---- thresholds of a strip
+pub cuts-turn : (want w : ℕ) (levels labels : List ℕ) (x i cy : ℕ) (cuts : List ℕ) (a t : ℕ)
+    → CutRow want w levels labels x i cy cuts → i < 64 → a ≡ x + i → t ≡ cutOf want w levels labels (a / 8) cy
+    → CutRow want w levels labels x (i + 1) cy (set cuts i t)
+cuts-turn want w levels labels x i cy cuts a t c l ea et =
+    record { size = length-set cuts i t ∙ c .size; each = λ j h. go j (eq-or-lt-of-le h) }
+  where
+    go : (j : ℕ) → (suc j ≡ i + 1) ⊎ (suc j < i + 1) → getD (set cuts i t) j 0 ≡ cutOf want w levels labels ((x + j) / 8) cy
+    go j (inl q) =
+        let z : i ≡ j = omega arith in
+        subst (λ (q : ℕ). getD (set cuts i t) q 0 ≡ cutOf want w levels labels ((x + q) / 8) cy) z
+        (getD-set-same cuts i t 0 (omega (arith, c .size)) ∙ et ∙ ap (λ (q : ℕ). cutOf want w levels labels (q / 8) cy) ea)
+    go j (inr q) = getD-set-other cuts i j t 0 (λ e. omega arith) ∙ c .each j (omega arith)
+
+-- ---- columns
+pub swept-begin : (p : ℕ → ℕ → Bool) (y0 rows x n : ℕ) (back : Bool) → n ≤ 64 → Swept p y0 rows x n back 0 (replicate 64 0)
+swept-begin p y0 rows x n back l = record {
+  size = length-replicate {A = ℕ} 64 0;
+  each = λ j h. getD-replicate 64 j 0 0 (omega arith) ∙ sym (scan-begin 4 (columnLine p y0 rows (x + j) back));
+}
+
+pub swept-turn : (want w : ℕ) (s levels labels : List ℕ) (y0 rows x n : ℕ) (back : Bool) (k : ℕ) (states cuts : List ℕ) (y : ℕ)
+    (row new : List ℕ)
+    → Swept (memberAt want w s levels labels) y0 rows x n back k states → CutRow want w levels labels x n (y / 8) cuts
+    → y ≡ y0 + toward back rows k
+    → row ≡ take n (drop (y * w + x) s) → length row ≡ n → length new ≡ 64
+    → ((i : ℕ) → i < length row → getD new i 0 ≡ scanStep 4 (getD states i 0) (ltb (getD row i 0) (getD cuts i 0)) k)
+    → Swept (memberAt want w s levels labels) y0 rows x n back (k + 1) new
+unfolding columnLine
+swept-turn want w s levels labels y0 rows x n back k states cuts y row new v c ey er en size each = record { size = size; each = one }
+  where
+    p : ℕ → ℕ → Bool
+    p = memberAt want w s levels labels
+
+    pix : (j : ℕ) → j < n → getD row j 0 ≡ getD s (y * w + (x + j)) 0
+    pix j l =
+        let z : y * w + x + j ≡ y * w + (x + j) = omega arith in
+        ap (λ (q : List ℕ). getD q j 0) er ∙ getD-take n (drop (y * w + x) s) j 0 l ∙ getD-drop (y * w + x) s j 0
+        ∙ ap (λ (q : ℕ). getD s q 0) z
+
+    one : (j : ℕ) → j < n → getD new j 0 ≡ scan 4 (columnLine p y0 rows (x + j) back) (k + 1)
+    one j l =
+        unfold columnLine in
+        let m : p (x + j) (y0 + toward back rows k) ≡ ltb (getD row j 0) (getD cuts j 0)
+        = ap (p (x + j)) (sym ey) ∙ member-cut want w s levels labels (x + j) y
+        ∙ ap (λ (q : ℕ). ltb q (cutOf want w levels labels ((x + j) / 8) (y / 8))) (sym (pix j l))
+        ∙ ap (λ (q : ℕ). ltb (getD row j 0) q) (sym (c .each j l)) in
+        each j (subst (λ (q : ℕ). j < q) (sym en) l)
+        ∙ ap (λ (q : ℕ). scanStep 4 q (ltb (getD row j 0) (getD cuts j 0)) k) (v .each j l)
+        ∙ ap (λ (q : Bool). scanStep 4 (scan 4 (columnLine p y0 rows (x + j) back) k) q k) (sym m)
+        ∙ sym (scan-more 4 (columnLine p y0 rows (x + j) back) k)
+
+pub swept-early : (p : ℕ → ℕ → Bool) (y0 rows x n : ℕ) (back : Bool) (k : ℕ) (states : List ℕ) → Swept p y0 rows x n back k states
+    → ((i : ℕ) → i < n → 4 ≤ getD states i 0) → k ≤ rows → Swept p y0 rows x n back rows states
+swept-early p y0 rows x n back k states v all l = record {
+  size = v .size;
+  each = λ j h. scan-early (columnLine p y0 rows (x + j) back) k rows (getD states j 0) (all j h) (v .each j h) l;
+}
+
+pub swept-most : (p : ℕ → ℕ → Bool) (y0 rows x n : ℕ) (back : Bool) (k : ℕ) (states : List ℕ) → Swept p y0 rows x n back k states
+    → AtMost n k states
+swept-most p y0 rows x n back k states v i l =
+    subst (λ (q : ℕ). q ≤ k) (sym (v .each i l)) (scan-le (columnLine p y0 rows (x + i) back) 4 (lit≤ tt) k)
+
+abbrev pub part : ℕ → ℕ → List ℕ → List ℕ
+part a e s = take (e - a) (drop a s)
+
+pub part-turn : (want w : ℕ) (s levels labels : List ℕ) (y0 rows x n : ℕ) (back : Bool) (k : ℕ) (states cuts : List ℕ) (y : ℕ)
+    (new : List ℕ)
+    → Swept (memberAt want w s levels labels) y0 rows x n back k states → CutRow want w levels labels x n (y / 8) cuts
+    → y ≡ y0 + toward back rows k
+    → y * w + x + n ≤ length s → length new ≡ 64
+    → ((i : ℕ) → i < length (part (y * w + x) (y * w + x + n) s)
+    → getD new i 0 ≡ scanStep 4 (getD states i 0) (ltb (getD (part (y * w + x) (y * w + x + n) s) i 0) (getD cuts i 0)) k)
+    → Swept (memberAt want w s levels labels) y0 rows x n back (k + 1) new
+part-turn want w s levels labels y0 rows x n back k states cuts y new v c ey fit size each =
+    let z : y * w + x + n - (y * w + x) ≡ n = omega arith in
+    swept-turn want w s levels labels y0 rows x n back k states cuts y (part (y * w + x) (y * w + x + n) s) new v c ey
+    (ap (λ (q : ℕ). take q (drop (y * w + x) s)) z) (long (y * w + x) s fit) size each
+  where
+    long : (a : ℕ) (s : List ℕ) → a + n ≤ length s → length (part a (a + n) s) ≡ n
+    long a s fit = simp (length-take, length-drop) (omega arith)
+
+pub part-at-most : (a n : ℕ) (s states : List ℕ) → AtMost n 4096 states → AtMost (length (part a (a + n) s)) 4096 states
+part-at-most a n s states h i l = h i (few (length (part a (a + n) s)) (short (drop a s)) l)
+  where
+    short : (l : List ℕ) → length (take (a + n - a) l) ≤ n
+    short l = simp length-take (omega arith)
+
+    few : (m : ℕ) → m ≤ n → i < m → i < n
+    few m b c = omega arith
+
+pub part-short : (a n : ℕ) (s : List ℕ) → n ≤ 64 → length (part a (a + n) s) ≤ 64
+part-short a n s l = simp (length-take) (omega arith)
+
+-- ---- the points of a column
+module _ (p : ℕ → ℕ → Bool) (y0 n x : ℕ) where
+  abbrev line : ℕ → Bool
+  line j = p x (y0 + j)
+
+  column-none : scan 4 (columnLine p y0 n x false) n < 4 → columnPoints 4 p y0 n x ≡ []
+  unfolding columnPoints edges columnLine
+  column-none h = rw (start-none line 4 (lit≤ tt) n h, le-ltb n n (omega arith))
+
+  pub column-is : (d u : ℕ) → d ≡ scan 4 (columnLine p y0 n x false) n → u ≡ scan 4 (columnLine p y0 n x true) n
+      → columnFound y0 n x d u ≡ columnPoints 4 p y0 n x
+  column-is d u ed eu = ⊎-elim found missing (le-or-lt 4 d)
+    where
+      found : 4 ≤ d → columnFound y0 n x d u ≡ columnPoints 4 p y0 n x
+      found h =
+          unfold columnPoints edges columnFound columnLine in
+          let h4 : 4 ≤ scan 4 line n = subst (λ (k : ℕ). 4 ≤ k) ed h in
+          let f = start-found line 4 (lit≤ tt) n h4 in
+          let e = end-found line (λ i. line (n - 1 - i)) 4 n (lit≤ tt) (λ i l. refl) h4 in
+          rw (le-leb 4 d h, lt-ltb (runStart 4 n line) n (f .1), f .0, e, ed, eu)
+
+      missing : d < 4 → columnFound y0 n x d u ≡ columnPoints 4 p y0 n x
+      missing h = unfold columnFound in rw (lt-leb 4 d h) (sym (column-none (subst (λ (k : ℕ). k < 4) ed h)))
+
+pub columns-are : (p : ℕ → ℕ → Bool) (y0 rows x n : ℕ) (down up : List ℕ) → Swept p y0 rows x n false rows down
+    → Swept p y0 rows x n true rows up
+    → columnsFound down up y0 rows x n ≡ columnsFrom 4 p y0 rows x n
+unfolding columnsFound columnsFrom
+columns-are p y0 rows x n down up d u =
+    joined-ext n (λ i. columnFound y0 rows (x + i) (getD down i 0) (getD up i 0)) (λ i. columnPoints 4 p y0 rows (x + i))
+    (λ i l. column-is p y0 rows (x + i) (getD down i 0) (getD up i 0) (d .each i l) (u .each i l))
+
+nothing : {A : Type 0} (n : ℕ) (f : ℕ → List A) → ((i : ℕ) → i < n → f i ≡ []) → joined n f ≡ []
+unfolding joined
+nothing zero f e = refl
+nothing (suc n) f e = rw (nothing n f (λ i l. e i (omega arith)), e n (omega arith))
+
+pub columns-none : (p : ℕ → ℕ → Bool) (y0 rows x n : ℕ) (down : List ℕ) → Swept p y0 rows x n false rows down
+    → ((i : ℕ) → i < n → getD down i 0 < 4) → [] ≡ columnsFrom 4 p y0 rows x n
+unfolding columnsFrom
+columns-none p y0 rows x n down d none =
+    sym (nothing n (λ i. columnPoints 4 p y0 rows (x + i))
+    (λ i l. column-none p y0 rows (x + i) (subst (λ (q : ℕ). q < 4) (d .each i l) (none i l))))

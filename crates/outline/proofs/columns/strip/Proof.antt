@@ -1,0 +1,83 @@
+-- `outline::columns::strip` meets its contract. Assumes nothing.
+use mathlib.Core.Bool.{true, false}
+use native.Mathlib.Omega.{arith}
+use denote.Ref.{now}
+use borrow.Author.Needs.{needs}
+use Rattle.boundary.specs.Boundary.{memberAt, columnsFrom}
+use Rattle.outline.proofs.Sweeps.{swept-begin, swept-most, columns-are, columns-none}
+use Rattle.outline.proofs.Writes.{wrote-none, wrote-ext}
+use Rattle.outline.proofs.columns.strip.Statement.{statement}
+use Rattle.outline.proofs.columns.strip.Tie as tie
+
+scan-columns-requires : tie.Need-scan-columns-requires
+scan-columns-requires c κs =
+    let e = c .before .before .before .before .before in
+    let a = e .args in
+    let p = memberAt (a .want) (a .w) (now (a .s)) (now (a .levels)) (now (a .labels)) in (
+      e .pre .0,
+      (
+        (e .pre .1 .0, e .pre .1 .1, e .pre .1 .2, e .pre .1 .3, e .pre .1 .4, e .pre .1 .5),
+        swept-begin p (a .y0) (a .rows) (a .x) (a .n) false (e .pre .1 .3),
+      ),
+    )
+
+none-found-requires : tie.Need-none-found-requires
+none-found-requires c κs = c .before .before .before .before .before .before .before .pre .1 .3
+
+returns : tie.Need-returns
+returns c =
+    let a = c .before .before .before .before .before .before .before .before .before .args in
+    let p = memberAt (a .want) (a .w) (now (a .s)) (now (a .levels)) (now (a .labels)) in
+    wrote-ext _ (columnsFrom 4 p (a .y0) (a .rows) (a .x) (a .n))
+    (columns-none p (a .y0) (a .rows) (a .x) (a .n) _ (c .before .before .before .scan-columns .ensures)
+    (c .before .none-found .ensures (c .if1 .taken))) (wrote-none (a .at) (now (a .out)))
+
+scan-columns-requires-2 : tie.Need-scan-columns-requires-2
+scan-columns-requires-2 c κs =
+    let e = c .before .before .before .before .before .before .before .before .before .before in
+    let a = e .args in
+    let p = memberAt (a .want) (a .w) (now (a .s)) (now (a .levels)) (now (a .labels)) in (
+      e .pre .0,
+      (
+        (e .pre .1 .0, e .pre .1 .1, e .pre .1 .2, e .pre .1 .3, e .pre .1 .4, e .pre .1 .5),
+        swept-begin p (a .y0) (a .rows) (a .x) (a .n) true (e .pre .1 .3),
+      ),
+    )
+
+put-columns-requires : tie.Need-put-columns-requires
+put-columns-requires c κs =
+    let e = c .before .before .before .before .before .before .before .before .before .before .before .before .before .before in
+    let a = e .args in
+    let p = memberAt (a .want) (a .w) (now (a .s)) (now (a .levels)) (now (a .labels)) in (
+      (omega (arith, e .pre .0, e .pre .1), e .pre .1 .3, omega (arith, e .pre .0, e .pre .1), e .pre .1 .6),
+      (
+        swept-most p (a .y0) (a .rows) (a .x) (a .n) false (a .rows) _
+            (c .before .before .before .before .before .before .before .before .scan-columns .ensures),
+        swept-most p (a .y0) (a .rows) (a .x) (a .n) true (a .rows) _ (c .before .before .before .scan-columns2 .ensures),
+      ),
+    )
+
+same-length : tie.Need-same-length
+same-length c = search needs
+
+returns-2 : tie.Need-returns-2
+returns-2 c =
+    let a = c .before .before .before .before .before .before .before .before .before .before .before .before .before .before .before
+    .before .before .args in
+    let p = memberAt (a .want) (a .w) (now (a .s)) (now (a .levels)) (now (a .labels)) in
+    wrote-ext _ (columnsFrom 4 p (a .y0) (a .rows) (a .x) (a .n))
+    (columns-are p (a .y0) (a .rows) (a .x) (a .n) _ _
+    (c .before .before .before .before .before .before .before .before .before .before .before .scan-columns .ensures)
+    (c .before .before .before .before .before .before .scan-columns2 .ensures)) (c .before .before .put-columns .ensures)
+
+pub strip-spec : {M : Type 1} → statement M
+strip-spec =
+    tie.close
+    (tie.spec
+    scan-columns-requires
+    none-found-requires
+    returns
+    scan-columns-requires-2
+    put-columns-requires
+    same-length
+    returns-2)

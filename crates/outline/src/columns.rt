@@ -1,0 +1,212 @@
+// Boundary points of columns, strip by strip, and of a whole box.
+use crate::rows::all_rows;
+use crate::stores::put_two;
+use crate::sweep::none_found;
+use crate::sweep::scan_columns;
+ghost use mathlib.Core.Path.{_≡_};
+ghost use Prim.Native.Nat.{_+_, _-_, _*_, _<_, _≤_};
+ghost use lib.ListN.{length};
+ghost use Rattle.boundary.specs.Boundary.{memberAt, columnsFrom, boundary};
+ghost use Rattle.outline.specs.Door.{boxAt};
+ghost use Rattle.outline.specs.Scan.{Grids, columnFound, columnsFound, AtMost, Wrote};
+
+// Stores the points of column x, whose scans of n rows from y0 on ended in d and u.
+fn put_column(
+    out: &mut [f32],
+    to: usize,
+    y0: usize,
+    n: usize,
+    x: usize,
+    d: usize,
+    u: usize,
+) -> usize
+    requires { ⌜ (to + 4 ≤ length (now out)) × (d ≤ n) × (u ≤ n) × (y0 + n ≤ 4096) × (x < 4096) ⌝ }
+    ensures { λ r. ⌜ Wrote to (columnFound y0 n x d u) (now (out .entry)) (now (out .exit)) r ⌝ }
+{
+    if d < 4 {
+        return to;
+    }
+    put_two(
+        out,
+        to,
+        2 * x + 1,
+        2 * (y0 + (d - 4)),
+        2 * x + 1,
+        2 * (y0 + (n + 4 - u)),
+    )
+}
+
+// Stores the points of the n columns from x on.
+fn put_columns(
+    down: &[u16; 64],
+    up: &[u16; 64],
+    x: usize,
+    n: usize,
+    y0: usize,
+    rows: usize,
+    out: &mut [f32],
+    at: usize,
+) -> usize
+    requires { ⌜
+        (x + n ≤ 4096)
+        × (n ≤ 64)
+        × (y0 + rows ≤ 4096)
+        × (at + 4 * n ≤ length (now out)) ⌝ }
+    requires { ⌜ AtMost n rows (now down) × AtMost n rows (now up) ⌝ }
+    ensures { λ r. ⌜
+        Wrote at (columnsFound (now (down .entry)) (now (up .entry)) y0 rows x n) (now (out .entry))
+        (now (out .exit)) r ⌝ }
+{
+    let mut to = at;
+    let mut i = 0;
+    while i < n {
+        to = put_column(out, to, y0, rows, x + i, down[i] as usize, up[i] as usize);
+        i += 1;
+    }
+    to
+}
+
+// The points of the n columns from x on. The second scan is left out where the first found no run.
+fn strip(
+    s: &[u8],
+    levels: &[u8],
+    labels: &[u32],
+    want: u32,
+    w: usize,
+    h: usize,
+    x: usize,
+    n: usize,
+    y0: usize,
+    rows: usize,
+    out: &mut [f32],
+    at: usize,
+) -> usize
+    requires { ⌜ Grids (now levels) (now labels) w h ⌝ }
+    requires { ⌜
+        (length (now s) ≡ w * h)
+        × (x + n ≤ w)
+        × (0 < n)
+        × (n ≤ 64)
+        × (y0 + rows ≤ h)
+        × (0 < rows)
+        × (at + 4 * n ≤ length (now out)) ⌝ }
+    ensures { λ r. ⌜
+        Wrote at (columnsFrom 4
+        (memberAt want w (now (s .entry)) (now (levels .entry)) (now (labels .entry))) y0 rows x
+        n) (now (out .entry)) (now (out .exit)) r ⌝ }
+{
+    let mut down = [0u16; 64];
+    let mut up = [0u16; 64];
+    scan_columns(
+        s,
+        levels,
+        labels,
+        want,
+        w,
+        h,
+        x,
+        n,
+        y0,
+        rows,
+        false,
+        &mut down,
+    );
+    if none_found(&down, n) {
+        return at;
+    }
+    scan_columns(s, levels, labels, want, w, h, x, n, y0, rows, true, &mut up);
+    put_columns(&down, &up, x, n, y0, rows, out, at)
+}
+
+// At most 64.
+fn strip_width(n: usize) -> usize
+    requires { ⌜ 0 < n ⌝ }
+    ensures { λ r. ⌜ (r ≤ n) × (0 < r) × (r ≤ 64) ⌝ }
+{
+    if 64 < n {
+        return 64;
+    }
+    n
+}
+
+// The points of the n columns from x0 on.
+fn all_columns(
+    s: &[u8],
+    levels: &[u8],
+    labels: &[u32],
+    want: u32,
+    w: usize,
+    h: usize,
+    x0: usize,
+    n: usize,
+    y0: usize,
+    rows: usize,
+    out: &mut [f32],
+    at: usize,
+) -> usize
+    requires { ⌜ Grids (now levels) (now labels) w h ⌝ }
+    requires { ⌜
+        (length (now s) ≡ w * h)
+        × (x0 + n ≤ w)
+        × (y0 + rows ≤ h)
+        × (0 < rows)
+        × (at + 4 * n ≤ length (now out)) ⌝ }
+    ensures { λ r. ⌜
+        Wrote at (columnsFrom 4
+        (memberAt want w (now (s .entry)) (now (levels .entry)) (now (labels .entry))) y0 rows
+        x0 n) (now (out .entry)) (now (out .exit)) r ⌝ }
+{
+    let mut to = at;
+    let mut i: usize = 0;
+    while i < n {
+        let wide = strip_width(n - i);
+        to = strip(
+            s,
+            levels,
+            labels,
+            want,
+            w,
+            h,
+            x0 + i,
+            wide,
+            y0,
+            rows,
+            out,
+            to,
+        );
+        i += wide;
+    }
+    to
+}
+
+// The boundary points of the box from x0, y0 to x1, y1; returns how many numbers were stored.
+pub fn boundary_points(
+    s: &[u8],
+    levels: &[u8],
+    labels: &[u32],
+    want: u32,
+    w: usize,
+    h: usize,
+    x0: usize,
+    y0: usize,
+    x1: usize,
+    y1: usize,
+    out: &mut [f32],
+) -> usize
+    requires { ⌜ Grids (now levels) (now labels) w h ⌝ }
+    requires { ⌜
+        (length (now s) ≡ w * h)
+        × (x0 < x1)
+        × (x1 ≤ w)
+        × (y0 < y1)
+        × (y1 ≤ h)
+        × (4 * (x1 - x0 + (y1 - y0)) ≤ length (now out)) ⌝ }
+    ensures { λ r. ⌜
+        Wrote 0 (boundary 4 (memberAt want w (now (s .entry)) (now (levels .entry))
+        (now (labels .entry))) (boxAt x0 y0 x1 y1)) (now (out .entry)) (now (out .exit)) r ⌝ }
+{
+    let n = x1 - x0;
+    let m = y1 - y0;
+    let at = all_rows(s, levels, labels, want, w, h, x0, n, y0, m, out);
+    all_columns(s, levels, labels, want, w, h, x0, n, y0, m, out, at)
+}

@@ -1,0 +1,217 @@
+// Boundary points of rows. A row is searched from either end for its first run of 4. Where no run
+// can start at k because of a pixel at k + i, it is searched from k + i + 1 on: the pixel at k + 3
+// is looked at first.
+use crate::cells::cut_at;
+use crate::cells::place;
+use crate::stores::put_two;
+ghost use mathlib.Core.Path.{_≡_};
+ghost use mathlib.Core.Bool.{false};
+ghost use Prim.Native.Nat.{_+_, _*_, _<_, _≤_};
+ghost use lib.ListN.{length};
+ghost use Rattle.boundary.specs.Runs.{runStart};
+ghost use Rattle.boundary.specs.Boundary.{memberAt, rowPoints, rowsFrom};
+ghost use Rattle.outline.specs.Scan.{rowLine, extremesOf, skipOf, Grids, Wrote};
+
+// Start of the first and end of the last run, or none.
+pub enum Extremes {
+    Ends(usize, usize),
+    NoRun,
+}
+
+// Whether pixel x, y is a member.
+fn member(
+    s: &[u8],
+    levels: &[u8],
+    labels: &[u32],
+    want: u32,
+    w: usize,
+    h: usize,
+    x: usize,
+    y: usize,
+) -> bool
+    requires { ⌜ Grids (now levels) (now labels) w h ⌝ }
+    requires { ⌜ (length (now s) ≡ w * h) × (x < w) × (y < h) ⌝ }
+    ensures { λ r. ⌜
+        r ≡ memberAt want w (now (s .entry)) (now (levels .entry)) (now (labels .entry)) x y ⌝ }
+{
+    s[y * w + x] < cut_at(levels, labels, want, w, h, x, y)
+}
+
+// Whether place k of row y is a member, from either end.
+fn at(
+    s: &[u8],
+    levels: &[u8],
+    labels: &[u32],
+    want: u32,
+    w: usize,
+    h: usize,
+    x0: usize,
+    n: usize,
+    y: usize,
+    back: bool,
+    k: usize,
+) -> bool
+    requires { ⌜ Grids (now levels) (now labels) w h ⌝ }
+    requires { ⌜ (length (now s) ≡ w * h) × (x0 + n ≤ w) × (y < h) × (k < n) ⌝ }
+    ensures { λ r. ⌜
+        r ≡ rowLine (memberAt want w (now (s .entry)) (now (levels .entry)) (now (labels .entry)))
+        x0 n y back k ⌝ }
+{
+    let x = place(back, x0, n, k);
+    member(s, levels, labels, want, w, h, x, y)
+}
+
+// How many places from k on no run can start at; 0 where a run of 4 starts at k.
+fn skip(
+    s: &[u8],
+    levels: &[u8],
+    labels: &[u32],
+    want: u32,
+    w: usize,
+    h: usize,
+    x0: usize,
+    n: usize,
+    y: usize,
+    back: bool,
+    k: usize,
+) -> usize
+    requires { ⌜ Grids (now levels) (now labels) w h ⌝ }
+    requires { ⌜ (length (now s) ≡ w * h) × (x0 + n ≤ w) × (y < h) × (k + 4 ≤ n) ⌝ }
+    ensures { λ r. ⌜
+        (r ≡ skipOf (rowLine (memberAt want w (now (s .entry)) (now (levels .entry))
+        (now (labels .entry))) x0 n y back) k)
+        × (r ≤ 4) ⌝ }
+{
+    if at(s, levels, labels, want, w, h, x0, n, y, back, k + 3) {
+        if at(s, levels, labels, want, w, h, x0, n, y, back, k + 2) {
+            if at(s, levels, labels, want, w, h, x0, n, y, back, k + 1) {
+                if at(s, levels, labels, want, w, h, x0, n, y, back, k) {
+                    return 0;
+                }
+                return 1;
+            }
+            return 2;
+        }
+        return 3;
+    }
+    4
+}
+
+// Where the first run of row y starts, from either end; n where there is none.
+fn first_run(
+    s: &[u8],
+    levels: &[u8],
+    labels: &[u32],
+    want: u32,
+    w: usize,
+    h: usize,
+    x0: usize,
+    n: usize,
+    y: usize,
+    back: bool,
+) -> usize
+    requires { ⌜ Grids (now levels) (now labels) w h ⌝ }
+    requires { ⌜ (length (now s) ≡ w * h) × (x0 + n ≤ w) × (y < h) ⌝ }
+    ensures { λ r. ⌜
+        (r ≡ runStart 4 n (rowLine
+        (memberAt want w (now (s .entry)) (now (levels .entry)) (now (labels .entry))) x0 n y
+        back))
+        × (r ≤ n) ⌝ }
+{
+    let mut k: usize = 0;
+    while k + 4 <= n {
+        let d = skip(s, levels, labels, want, w, h, x0, n, y, back, k);
+        if d == 0 {
+            return k;
+        }
+        k += d;
+    }
+    n
+}
+
+// The ends of the first and the last run of row y, counted from x0.
+fn run_extremes(
+    s: &[u8],
+    levels: &[u8],
+    labels: &[u32],
+    want: u32,
+    w: usize,
+    h: usize,
+    x0: usize,
+    n: usize,
+    y: usize,
+) -> Extremes
+    requires { ⌜ Grids (now levels) (now labels) w h ⌝ }
+    requires { ⌜ (length (now s) ≡ w * h) × (x0 + n ≤ w) × (y < h) ⌝ }
+    ensures { λ r. ⌜
+        r ≡ extremesOf 4 n (rowLine
+        (memberAt want w (now (s .entry)) (now (levels .entry)) (now (labels .entry))) x0 n y
+        false) ⌝ }
+{
+    let a = first_run(s, levels, labels, want, w, h, x0, n, y, false);
+    if a < n {
+        let b = first_run(s, levels, labels, want, w, h, x0, n, y, true);
+        return Extremes::Ends(a, n - b);
+    }
+    Extremes::NoRun
+}
+
+// The points of row y.
+fn row_points(
+    s: &[u8],
+    levels: &[u8],
+    labels: &[u32],
+    want: u32,
+    w: usize,
+    h: usize,
+    x0: usize,
+    n: usize,
+    y: usize,
+    out: &mut [f32],
+    to: usize,
+) -> usize
+    requires { ⌜ Grids (now levels) (now labels) w h ⌝ }
+    requires { ⌜ (length (now s) ≡ w * h) × (x0 + n ≤ w) × (y < h) × (to + 4 ≤ length (now out)) ⌝ }
+    ensures { λ r. ⌜
+        Wrote to (rowPoints 4
+        (memberAt want w (now (s .entry)) (now (levels .entry)) (now (labels .entry))) x0 n y)
+        (now (out .entry)) (now (out .exit)) r ⌝ }
+{
+    let Extremes::Ends(a, b) = run_extremes(s, levels, labels, want, w, h, x0, n, y) else {
+        return to;
+    };
+    put_two(out, to, 2 * (x0 + a), 2 * y + 1, 2 * (x0 + b), 2 * y + 1)
+}
+
+// The points of the m rows from y0 on.
+pub fn all_rows(
+    s: &[u8],
+    levels: &[u8],
+    labels: &[u32],
+    want: u32,
+    w: usize,
+    h: usize,
+    x0: usize,
+    n: usize,
+    y0: usize,
+    m: usize,
+    out: &mut [f32],
+) -> usize
+    requires { ⌜ Grids (now levels) (now labels) w h ⌝ }
+    requires { ⌜
+        (length (now s) ≡ w * h)
+        × (x0 + n ≤ w)
+        × (y0 + m ≤ h)
+        × (4 * m ≤ length (now out)) ⌝ }
+    ensures { λ r. ⌜
+        Wrote 0 (rowsFrom 4 (memberAt want w (now (s .entry)) (now (levels .entry))
+        (now (labels .entry))) x0 n y0 m) (now (out .entry)) (now (out .exit)) r ⌝ }
+{
+    let mut to: usize = 0;
+    let mut i: usize = 0;
+    while i < m {
+        to = row_points(s, levels, labels, want, w, h, x0, n, y0 + i, out, to);
+        i += 1;
+    }
+    to
+}

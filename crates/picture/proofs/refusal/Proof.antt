@@ -1,0 +1,11 @@
+use mathlib.Core.Path.{refl}
+use Rattle.regions.specs.Door.{noRegion, noRegions}
+use Rattle.picture.proofs.refusal.Statement.{statement}
+use Rattle.picture.proofs.refusal.Tie as tie
+
+returns : tie.Need-returns
+unfolding noRegions noRegion
+returns c = refl
+
+pub refusal-spec : {M : Type 1} → statement M
+refusal-spec = tie.close (tie.spec returns)

@@ -1,0 +1,142 @@
+// The picture door: a grey picture in; its level grid, its labels and up to four regions out.
+ghost use mathlib.Core.Path.{_≡_};
+ghost use Prim.Native.Nat.{_*_, _≤_};
+ghost use lib.ListN.{length};
+ghost use Rattle.laws.specs.Plane.{plane, drawn};
+ghost use Rattle.levels.specs.Level.{cells, level};
+ghost use Rattle.levels.specs.Steps.{Picture, Rooms};
+ghost use Rattle.regions.specs.Cells.{cells8, cellsOf};
+ghost use Rattle.regions.specs.Door.{checkGrids, keptRegions, refusedBy, pictureAnswer, levelsAfter, labelsAfter, StackAfter};
+ghost use Rattle.laws.specs.Lent.{UntouchedPast};
+ghost use Rattle.picture.specs.Inner.{Passed, Mapped, LabelledBy};
+use labels::cells::mark_cells;
+use labels::cells::region_cells;
+use labels::groups::Next;
+use labels::groups::label_all;
+use levels::cells::cells_of;
+use levels::level_grid;
+use regions::answer::Kept;
+use regions::answer::PictureAnswer;
+use regions::answer::Region;
+use regions::top::regions;
+
+// The checks in order, on numbers: the sides, the picture's bytes, the places of the three lent
+// lists. The number of the first that fails, else 0.
+fn check(w: usize, h: usize, bytes: usize, grid: usize, labels: usize, stack: usize) -> u32
+    ensures { λ r. ⌜ r ≡ checkGrids w h bytes grid labels stack ⌝ }
+    ensures { λ r. ⌜ (r ≡ 0 → Passed w h bytes grid labels stack) ⌝ }
+{
+    if w < 1 {
+        return 1;
+    }
+    if 4096 < w {
+        return 1;
+    }
+    if h < 1 {
+        return 1;
+    }
+    if 4096 < h {
+        return 1;
+    }
+    if bytes != w * h {
+        return 2;
+    }
+    if grid < cells_of(w) * cells_of(h) {
+        return 3;
+    }
+    let n = region_cells(h) * region_cells(w);
+    if labels < n {
+        return 3;
+    }
+    if stack < n {
+        return 3;
+    }
+    0
+}
+
+// The level grid and the labels of a picture, and how many labels there are; or that a push found
+// the stack full. Before labelling, the two lists of cells hold dark and light levels.
+fn ink_map(
+    s: &[u8],
+    w: usize,
+    h: usize,
+    grid: &mut [u8],
+    labels: &mut [u32],
+    stack: &mut [u32],
+) -> Next
+    requires { ⌜ Picture (now s) w h ⌝ }
+    requires { ⌜ Rooms (cells w * cells h) (now grid) (now labels) (now stack) ⌝ }
+    requires { ⌜ cellsOf w h ≤ length (now labels) ⌝ }
+    ensures { λ _. ⌜ now (grid .exit) ≡ drawn (cells w) (cells h) (level (plane w (now (s .entry))) w h) (now (grid .entry)) ⌝ }
+    ensures { λ r. ⌜ Mapped (now (s .entry)) w h (now (labels .entry)) (now (stack .entry)) (now (labels .exit)) (now (stack .exit)) r ⌝ }
+{
+    level_grid(s, w, h, grid, labels, stack);
+    mark_cells(s, w, h, grid, labels);
+    label_all(labels, stack, region_cells(w), region_cells(h))
+}
+
+// The regions of labelled cells, with `v` counters in the first places of the stack.
+fn count_regions(s: &[u8], w: usize, h: usize, labels: &[u32], stack: &mut [u32], v: u32) -> Kept
+    requires { ⌜ Picture (now s) w h ⌝ }
+    requires { ⌜ (cellsOf w h ≤ length (now labels)) × (cellsOf w h ≤ length (now stack)) ⌝ }
+    requires { ⌜ LabelledBy (now s) w h (now labels) v ⌝ }
+    ensures { λ r. ⌜ r ≡ keptRegions (plane w (now (s .entry))) w h ⌝ }
+    ensures { λ _. ⌜ UntouchedPast (cellsOf w h) (now (stack .entry)) (now (stack .exit)) ⌝ }
+{
+    let cw = region_cells(w);
+    let ch = region_cells(h);
+    let n = ch * cw;
+    let m = v as usize;
+    regions(&labels[..n], &mut stack[..m], cw, ch, w, h)
+}
+
+// The answer of a refusal: its number, and no regions.
+fn refusal(n: u32) -> PictureAnswer
+    ensures { λ r. ⌜ r ≡ refusedBy n ⌝ }
+{
+    let none = Region {
+        label: 0,
+        cells: 0,
+        x0: 0,
+        y0: 0,
+        x1: 0,
+        y1: 0,
+    };
+    PictureAnswer {
+        refused: n,
+        regions: Kept {
+            all: 0,
+            kept: 0,
+            list: [none; 4],
+        },
+    }
+}
+
+// The picture door. It lends a grid of one byte a level cell, and two lists of one number a region
+// cell: labels and the stack. Refusals: 1, a side outside 1..4,096; 2, bytes not width times height;
+// 3, a lent list too short; 4, a push finds the stack full, which does not happen where 3 is passed.
+pub fn picture(
+    s: &[u8],
+    w: usize,
+    h: usize,
+    grid: &mut [u8],
+    labels: &mut [u32],
+    stack: &mut [u32],
+) -> PictureAnswer
+    ensures answer { λ r. ⌜ r ≡ pictureAnswer (now (s .entry)) w h (length (now (grid .entry))) (length (now (labels .entry))) (length (now (stack .entry))) ⌝ }
+    ensures levels { λ r. ⌜ now (grid .exit) ≡ levelsAfter (r .refused) (now (s .entry)) w h (now (grid .entry)) ⌝ }
+    ensures labels { λ r. ⌜ now (labels .exit) ≡ labelsAfter (r .refused) (now (s .entry)) w h (now (labels .entry)) ⌝ }
+    ensures stack { λ r. ⌜ StackAfter (r .refused) w h (now (stack .entry)) (now (stack .exit)) ⌝ }
+{
+    let no = check(w, h, s.len(), grid.len(), labels.len(), stack.len());
+    if no != 0 {
+        return refusal(no);
+    }
+    let Next::At(v) = ink_map(s, w, h, grid, labels, stack) else {
+        return refusal(4);
+    };
+    PictureAnswer {
+        refused: 0,
+        regions: count_regions(s, w, h, labels, stack, v),
+    }
+}
