@@ -123,6 +123,16 @@ fn wild(r: &mut Rng) -> f32 {
     }
 }
 
+/// Points that the ring door takes. Past its limits a straightened point can be a NaN that this machine makes
+/// with its sign set, which the Rust's hull puts first and document 01 last.
+fn tame(points: &mut [P]) {
+    let one = |v: &mut f32| *v = if v.is_nan() { 7.0 } else { v.clamp(-32768.0, 32768.0) };
+    for p in points {
+        one(&mut p.0);
+        one(&mut p.1);
+    }
+}
+
 fn list(r: &mut Rng, n: u64) -> Vec<P> {
     let wilds = r.chance(0.3);
     let small = r.chance(0.3);
@@ -327,6 +337,7 @@ fn of_kind(kind: u32, r: &mut Rng, most: f64) -> Call {
                 return late_nan(r);
             }
             let mut g = drawn(r, most);
+            tame(&mut g.points);
             if r.chance(0.1) {
                 // a centre on an edge
                 let e = r.below(4) as usize;
