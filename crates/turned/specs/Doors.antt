@@ -1,6 +1,5 @@
--- The doors carry demand 3: what they answer and leave in lent memory, for a picture and for the moved picture, is moved alike. A record of
--- a
--- call has as its fields the very equations of the door's contract, so this speaks of every run of the code. Statements only.
+-- The doors carry demand 3: what they answer and leave in lent memory, for a picture and for the moved picture, is moved alike. A record
+-- of a call has as its fields the very equations of the door's contract, so this speaks of every run of the code. Statements only.
 use mathlib.Core.Path.{_≡_}
 use mathlib.Core.Logic.{_↔_}
 use mathlib.Core.List.{List, []}
@@ -44,9 +43,8 @@ pub record Pictured (s : List ℕ) (w h : ℕ) : Type 0 where
 abbrev pub regionOf : (s : List ℕ) (w h : ℕ) → Pictured s w h → ℕ → Region
 regionOf s w h c i = getD (c .answer .regions .list) i noRegion
 
--- The checks of the outline door, and its points, for that region: handed the grids that the picture door left, the region's label and box,
--- and a
--- list of so many places.
+-- The checks of the outline door, and its points, for that region: handed the grids that the picture door left, the region's label and
+-- box, and a list of so many places.
 abbrev pub checkedFor : (s : List ℕ) (w h : ℕ) → Pictured s w h → Region → ℕ → ℕ
 checkedFor s w h c r room = checkOutline w h (length s) (r .x0) (r .y0) (r .x1) (r .y1) (length (c .grid)) (length (c .labels)) room
 
@@ -70,8 +68,7 @@ listed (Refused n) l = []
 -- ---- moved alike
 
 -- Numbers listed for a region of a picture of w by h, and for that of the moved picture; `convex_hull` and `quad` are handed the numbers
--- listed and
--- the vertices stored. What the numbers stand for, in doubled coordinates, is as demand 3 has it.
+-- listed and the vertices stored. What the numbers stand for, in doubled coordinates, is as demand 3 has it.
 pub record OutlinesAlike (m : Move) (w h : ℕ) (l l′ : List Float) : Type 0 where
   pub points : List (ℕ × ℕ)
   pub points′ : List (ℕ × ℕ)
