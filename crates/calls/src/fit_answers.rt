@@ -1,5 +1,5 @@
-// Answers of lines, crossings, bows and quads in words: a word 0, a word 1 where there might be none,
-// and the numbers; or two words 0 for none.
+// Answers of lines, crossings, bows and quads in words: a word 0, a word 1 where there might be
+// none, and the numbers; or two words 0 for none.
 ghost use Prim.Native.Nat.{_≤_};
 ghost use lib.ListN.{length};
 use crate::floats;

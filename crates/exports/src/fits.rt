@@ -1,6 +1,6 @@
-// Corners and the lens for C and Rust. Points are x and y by turns, at most 16,384 of them; a quad is
-// the eight numbers of its corners; each working list is at least as long as that of the points. The
-// result is 0 where an answer is given, 255 where there is none or a list does not fit.
+// Corners and the lens for C and Rust. Points are x and y by turns, at most 16,384 of them; a quad
+// is the eight numbers of its corners; each working list is at least as long as that of the points.
+// The result is 0 where an answer is given, 255 where there is none or a list does not fit.
 use hull::points::Corners;
 use hull::points::Point;
 use hull::points::Quad;

@@ -48,8 +48,8 @@ fn near_root(m: u64) -> u64
 }
 
 // A whole number near the root of m, where m is from 2^46 up to 2^48: a parabola within 0.6 %, then
-// two of Newton's steps, each of which squares what is left. Nothing is promised of it; `quick_root`
-// looks whether it is the nearest.
+// two of Newton's steps, each of which squares what is left. Nothing is promised of it;
+// `quick_root` looks whether it is the nearest.
 fn guess(m: u64) -> u64
     requires { ⌜ m < 281474976710656 ⌝ }
     ensures { λ r. ⌜ r < 33554432 ⌝ }
@@ -64,8 +64,8 @@ fn guess(m: u64) -> u64
     0
 }
 
-// The whole number nearest to the root of m: the guess where m lies between the squares of the halves
-// beside it, else by bisection.
+// The whole number nearest to the root of m: the guess where m lies between the squares of the
+// halves beside it, else by bisection.
 fn quick_root(m: u64) -> u64
     requires { ⌜ m < 281474976710656 ⌝ }
     ensures { λ r. ⌜ r ≡ nearRoot m ⌝ }

@@ -1,8 +1,6 @@
 -- What the sweeps over a strip of columns keep. The invariant Stepped of a row (stepped-begin, stepped-turn), the thresholds (cuts-turn),
--- the invariant
--- Swept of a strip (swept-begin, swept-turn, part-turn, swept-early, swept-most), and the points found (column-none, column-is,
--- columns-are,
--- columns-none). Assumes nothing.
+-- the invariant Swept of a strip (swept-begin, swept-turn, part-turn, swept-early, swept-most), and the points found (column-none,
+-- column-is, columns-are, columns-none). Assumes nothing.
 use mathlib.Core.Path.{_≡_, refl, sym, ap, _∙_, subst}
 use mathlib.Core.Bool.{Bool, true, false, cond}
 use mathlib.Core.List.{List, [], _∷_, _++_, map, append-nil}

@@ -28,8 +28,20 @@ use Rattle.regions.specs.declared.answer.PictureAnswer.{PictureAnswer}
 use Rattle.regions.specs.declared.answer.Region.{Region}
 use Rattle.hull.specs.Points.{floatsOf, laid}
 use Rattle.boundary.specs.Runs.{edges}
-use Rattle.boundary.specs.Boundary.{memberOf, isMember, memberAt, joined, across, down, rowPoints, columnPoints, rowsFrom, columnsFrom,
-    boundary, outlineOf}
+use Rattle.boundary.specs.Boundary.{
+  memberOf,
+  isMember,
+  memberAt,
+  joined,
+  across,
+  down,
+  rowPoints,
+  columnPoints,
+  rowsFrom,
+  columnsFrom,
+  boundary,
+  outlineOf,
+}
 use Rattle.boundary.proofs.Runs.{edges-ext}
 use Rattle.boundary.proofs.Boundary.{Within}
 use Rattle.boundary.proofs.Members.{member-lists}
@@ -111,7 +123,7 @@ unfolding boundary rowsFrom columnsFrom rowPoints columnPoints
 boundary-same k w h t u b within same =
     ap₂ (λ (r s : List (ℕ × ℕ)). r ++ s)
     (joined-same (b .y1 - b .y0) (λ j. rowPoints k t (b .x0) (b .x1 - b .x0) (b .y0 + j))
-        (λ j. rowPoints k u (b .x0) (b .x1 - b .x0) (b .y0 + j))
+    (λ j. rowPoints k u (b .x0) (b .x1 - b .x0) (b .y0 + j))
     (λ j lj. ap (map (across (2 * (b .y0 + j) + 1)))
     (edges-ext k (b .x1 - b .x0) (λ i. t (b .x0 + i) (b .y0 + j)) (λ i. u (b .x0 + i) (b .y0 + j)) (b .x0)
     (λ i li. same (b .x0 + i) (b .y0 + j) (inside (b .x0) (b .x1) w i (within .wide) li) (inside (b .y0) (b .y1) h j (within .high) lj)))))

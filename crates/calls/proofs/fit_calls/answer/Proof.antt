@@ -51,14 +51,18 @@ array-share-prefix-s c = search needs
 
 slice-aggregate-of-points : tie.Need-slice-aggregate-of-points
 slice-aggregate-of-points c =
-    let n = length (c .before .before .before .before .before .before .before .before .before .before .before .before .before .before .before .args .args .now) - c .before .before .before .before .before .before .before .before .before .before .before .before .head .result in
+    let n = length (c .before .before .before .before .before .before .before .before .before .before .before .before .before .before
+    .before .args .args .now) - c .before .before .before .before .before .before .before .before .before .before .before .before .head
+    .result in
     let w = c .before .before .before .read322 .last .1 .0 in
     let h : n ≤ length w = search needs in
     sym (length-take-le n w h)
 
 of-points-requires : tie.Need-of-points-requires
 of-points-requires c κs =
-    let n = length (c .before .before .before .before .before .before .before .before .before .before .before .before .before .before .before .before .args .args .now) - c .before .before .before .before .before .before .before .before .before .before .before .before .before .head .result in
+    let n = length (c .before .before .before .before .before .before .before .before .before .before .before .before .before .before
+    .before .before .args .args .now) - c .before .before .before .before .before .before .before .before .before .before .before
+    .before .before .head .result in
     let w = c .before .before .before .before .read322 .last .1 .0 in
     let h : n ≤ length w = search needs in
     let k : n ≤ 8192 = search needs in

@@ -28,12 +28,16 @@ slice-reshare-prefix-put c = search needs
 
 slice-aggregate-put : tie.Need-slice-aggregate-put
 slice-aggregate-put c =
-    let room : length (c .before .before .before .before .before .before .before .before .before .before .before .before .args .s .now) ≤ length (c .before .before .before .before .before .before .before .before .before .before .before .before .args .x .now) = search needs in
+    let room : length (c .before .before .before .before .before .before .before .before .before .before .before .before .args .s .now) ≤
+    length (c .before .before .before .before .before .before .before .before .before .before .before .before .args .x .now) =
+    search needs in
     sym (kept-long (c .before .before .before .before .undistort .ensures) room)
 
 put-requires : tie.Need-put-requires
 put-requires c κs =
-    let room : length (c .before .before .before .before .before .before .before .before .before .before .before .before .args .s .now) ≤ length (c .before .before .before .before .before .before .before .before .before .before .before .before .args .x .now) = search needs in
+    let room : length (c .before .before .before .before .before .before .before .before .before .before .before .before .args .s .now) ≤
+    length (c .before .before .before .before .before .before .before .before .before .before .before .before .args .x .now) =
+    search needs in
     let few = c .before .before .before .before .undistort .ensures .few in
     let long = kept-long (c .before .before .before .before .undistort .ensures) room in
     (search needs, (search needs, omega arith))

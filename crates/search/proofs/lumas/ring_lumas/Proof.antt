@@ -1,5 +1,5 @@
--- `search::lumas::ring_lumas` writes one luma after the other. Invariant: the lumas of the positions below p stand at the beginning. Measure: the
--- positions left. Assumes nothing.
+-- `search::lumas::ring_lumas` writes one luma after the other. Invariant: the lumas of the positions below p stand at the beginning.
+-- Measure: the positions left. Assumes nothing.
 use lib.ListN.{length, take, length-set}
 use borrow.Author.Needs.{needs}
 use native.Mathlib.Omega.{arith}
