@@ -20,15 +20,11 @@ pub fn root(x: f32) -> f32
     if x > 0.0 {
         let b: u32 = f32::to_bits(x);
         if b < 0x7f80_0000 {
-            f32::from_bits(square_root::root_bits(b))
-        } else {
-            x
+            return f32::from_bits(square_root::root_bits(b));
         }
-    } else if x == 0.0 {
-        x
-    } else {
-        0.0 / 0.0
+        return x;
     }
+    if x == 0.0 { x } else { 0.0 / 0.0 }
 }
 
 // x rounded to the nearest f32, a tie to the even one: the Rust's `as f32`.
