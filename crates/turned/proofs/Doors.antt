@@ -26,8 +26,19 @@ use Rattle.boundary.specs.Boundary.{outlineOf}
 use Rattle.boundary.proofs.Boundary.{Within, box-within}
 use Rattle.boundary.proofs.Points.{region-within}
 use Rattle.outline.specs.Door.{boxAt}
-use Rattle.turned.specs.Claims.{Taken, NoTies, Moved, SameThresholds, SameInk, SameInkCells, SameGroups, SameRegion, SamePoints,
-    SameHull, SameQuad}
+use Rattle.turned.specs.Claims.{
+  Taken,
+  NoTies,
+  Moved,
+  SameThresholds,
+  SameInk,
+  SameInkCells,
+  SameGroups,
+  SameRegion,
+  SamePoints,
+  SameHull,
+  SameQuad,
+}
 use Rattle.turned.specs.Doors.{Pictured, regionOf, pointsFor, Outlined, listed, OutlinesAlike, RegionsAlike, DoorsAlike, DoorsMoved}
 use Rattle.turned.proofs.Floats.{hull-floats, quad-floats}
 use Rattle.turned.proofs.Calls.{regions-is, grid-at, label-at, region-is, points-is, listed-is}
