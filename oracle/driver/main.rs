@@ -5,6 +5,7 @@ mod bench;
 mod border;
 mod calc;
 mod calls;
+mod fit;
 mod fuzz;
 mod ieee;
 mod list;
@@ -15,7 +16,8 @@ mod pic;
 mod transform;
 use std::io::{Read, Write};
 
-const AREAS: &[&calls::Area] = &[&border::AREA, &ieee::AREA, &math::AREA, &transform::AREA, &marks::AREA];
+const AREAS: &[&calls::Area] =
+    &[&border::AREA, &ieee::AREA, &math::AREA, &transform::AREA, &marks::AREA, &fit::AREA];
 
 /// The areas of a name, or all of them.
 fn areas(name: &str) -> Vec<&'static calls::Area> {
@@ -41,6 +43,7 @@ fn main() {
         Some("fuzz") => fuzz::run(num(2, 1), num(3, 10000)),
         Some("bench") if a.get(2).is_some_and(|s| s == "marks") => marks::bench(),
         Some("bench") if a.get(2).is_some_and(|s| s == "numbers") => numbers_bench::run(),
+        Some("bench") if a.get(2).map(|s| s.as_str()) == Some("fit") => fit::bench(),
         Some("bench") => bench::run(),
         Some("vectors") => areas(&a[2]).into_iter().for_each(calls::vectors),
         // compare AREA|all SEED SECONDS [MOST]: the seconds are shared by the areas

@@ -1,6 +1,5 @@
 -- Member pixels and boundary points, as document 01 has them under "Cell labels" and "Boundary points". Points are in doubled coordinates,
--- so that
--- centres and edges of pixels are whole numbers. Definitions only. Assumes nothing.
+-- so that centres and edges of pixels are whole numbers. Definitions only. Assumes nothing.
 use mathlib.Core.Bool.{Bool, _&&_, _||_, not}
 use mathlib.Core.List.{List, [], _++_, map}
 use Prim.Native.Nat.{ℕ, zero, suc, _+_, _-_, _*_, _/_}
@@ -41,8 +40,7 @@ abbrev pub down : ℕ → ℕ → ℕ × ℕ
 down x y = (x, y)
 
 -- The points of row y, of which n pixels from x0 on are looked at, and of column x, of which n pixels from y0 on are; t says which pixels
--- are
--- members.
+-- are members.
 unfoldable pub rowPoints : ℕ → (ℕ → ℕ → Bool) → ℕ → ℕ → ℕ → List (ℕ × ℕ)
 rowPoints k t x0 n y = map (across (2 * y + 1)) (edges k n (λ i. t (x0 + i) y) x0)
 

@@ -1,6 +1,5 @@
 -- Runs on a line of pixels, as document 01 has them under "Boundary points". The shortest run k is a number of the caller's; the base has
--- 4.
--- Definitions only. Assumes nothing.
+-- 4. Definitions only. Assumes nothing.
 use mathlib.Core.Bool.{Bool, true, false, _&&_, _||_, cond}
 use mathlib.Core.List.{List, [], _∷_}
 use Prim.Native.Nat.{ℕ, zero, suc, _+_, _*_}

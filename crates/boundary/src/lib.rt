@@ -1,1 +1,2 @@
-// Runs and boundary points: definitions, and what the moves of a picture do to boundary points, hull and quad.
+// Runs and boundary points: definitions, and what the moves of a picture do to boundary points,
+// hull and quad.

@@ -6,6 +6,8 @@
 // stand four to a word, lowest first. The answer's first word is 0, or the refusal's number alone.
 // The result is how many words of `out` were written; 0 where the call does not fit its kind.
 pub mod border;
+pub mod fit_answers;
+pub mod fit_calls;
 pub mod floats;
 pub mod ieee_calls;
 pub mod marks_calls;
@@ -26,8 +28,14 @@ pub fn call(kind: u32, args: &[u32], out: &mut [u32]) -> usize {
     if kind < 500 {
         return transform_calls::answer(kind, args, out);
     }
-    if 700 <= kind {
+    if kind < 700 {
+        return 0;
+    }
+    if kind < 800 {
         return marks_calls::answer(kind, args, out);
+    }
+    if kind < 900 {
+        return fit_calls::answer(kind, args, out);
     }
     0
 }

@@ -1,7 +1,7 @@
 // Calls of math's doors. An f64 is two words, an f32 one.
 //     300 solve n, cells, rows, a.., b..           0, 1, eight f64; 0, 0 for none; 9
 //     301 least_squares n, values, samples, ..     0, 1, eight f64; 0, 0 for none; 9
-//     302 median values..                          0, the median, the values as it leaves them; 9; 10
+// 302 median values.. 0, the median, the values as it leaves them; 9; 10
 //     303 mad_sigma values..                       0, the answer; 9; 10
 // At most 2,048 numbers in either list of 300 and 301, at most 5,000 in that of 302 and 303.
 ghost use mathlib.Core.Path.{_≡_};

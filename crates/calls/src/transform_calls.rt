@@ -1,4 +1,5 @@
-// Calls of transform's entries. An f64 is two words, an f32 one; a quad is eight f32, x and y by turns.
+// Calls of transform's entries. An f64 is two words, an f32 one; a quad is eight f32, x and y by
+// turns.
 //     400 from_quad src, dst                    0, 1, eight f64; 0, 0 for none
 //     401 apply of eleven f64, u, v             0, x, y
 //     402 from_quad src, dst, with_radial cx, cy, kappa, apply u, v

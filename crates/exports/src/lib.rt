@@ -1,6 +1,8 @@
 // The finder as a static library for C and Rust.
+pub mod fits;
 pub mod marks_exports;
 pub mod numbers;
+pub mod outlines;
 
 // One entry by its number (see crate `calls`): the words of its answer, first in `out`, and how
 // many.

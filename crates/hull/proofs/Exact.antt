@@ -1,7 +1,6 @@
--- For points of doubled coordinates up to 2,048 the f32 tests of the hull are those of whole numbers.
--- Values: half-val, neg-is, less-is, near, sum-size. Points by number: pt-at, small-at, x-at, y-at, vx, vy, dx, dy. Tests: cross-round,
--- d2-is,
--- bet-is, low-is, eq-is. The hull: map-pt, length-pts, hull-exact. Assumes nothing.
+-- For points of doubled coordinates up to 2,048 the f32 tests of the hull are those of whole numbers. Values: half-val, neg-is, less-is,
+-- near, sum-size. Points by number: pt-at, small-at, x-at, y-at, vx, vy, dx, dy. Tests: cross-round, d2-is, bet-is, low-is, eq-is. The
+-- hull: map-pt, length-pts, hull-exact. Assumes nothing.
 use mathlib.Core.Path.{_≡_, refl, sym, ap, ap₂, _∙_, subst}
 use mathlib.Core.Bool.{Bool, true, false, not, _&&_, _||_, cond}
 use mathlib.Core.List.{List, [], _∷_, map, List·Memᴰ, List·Memᴰ·head, List·Memᴰ·tail}

@@ -1,6 +1,5 @@
 -- The folds of the hull, a step at a time, and the stores of the walk. sel-begin, sel-turn, sel-end; lst-begin, lst-turn, lst-end; the
--- invariant Walked
--- with walked-begin, walked-turn, walked-stop, walked-end; hull-none. Assumes nothing.
+-- invariant Walked with walked-begin, walked-turn, walked-stop, walked-end; hull-none. Assumes nothing.
 use mathlib.Core.Path.{_≡_, refl, sym, ap, _∙_, subst}
 use mathlib.Core.Bool.{Bool, true, false, cond}
 use mathlib.Core.List.{List, [], _∷_, _++_, append-assoc, append-nil}

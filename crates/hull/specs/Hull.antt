@@ -1,6 +1,5 @@
 -- The hull of a list of f32 points, as document 01 has it under "Hull and quad": the Rust's walk with f32 tests, on any input, NaN and -0
--- included.
--- It starts at the least x, then the least y, by total order. Definitions only. Assumes nothing.
+-- included. It starts at the least x, then the least y, by total order. Definitions only. Assumes nothing.
 use mathlib.Core.Bool.{Bool, not, _&&_, _||_}
 use mathlib.Core.List.{List, map}
 use Prim.Native.Nat.{ℕ}

@@ -1,6 +1,6 @@
 -- Lists of points, as document 01 has them under "Boundary points" and "Forms the Rust has and Rattle lacks": f32 numbers, x and y
--- alternating, and
--- points in doubled whole coordinates, so that centres and edges of pixels are whole numbers. Definitions only. Assumes nothing.
+-- alternating, and points in doubled whole coordinates, so that centres and edges of pixels are whole numbers. Definitions only. Assumes
+-- nothing.
 use mathlib.Core.Bool.{false}
 use mathlib.Core.List.{List, [], _∷_, _++_, map, List·Memᴰ}
 use Prim.Native.Nat.{ℕ, _+_, _*_, _/_, _≤_}

@@ -1,6 +1,5 @@
 -- The quad of a hull, as document 01 has it under "Hull and quad": the farthest pair and the farthest point on either side of it,
--- clockwise, with f32
--- tests, on any input. Definitions only. Assumes nothing.
+-- clockwise, with f32 tests, on any input. Definitions only. Assumes nothing.
 use mathlib.Core.Bool.{not}
 use mathlib.Core.List.{List, [], _∷_, map}
 use Prim.Native.Nat.{ℕ}

@@ -1,6 +1,7 @@
 pub mod Values
 pub mod Tests
 pub mod Roots
+pub mod Guesses
 pub mod RootNearest
 pub mod Narrows
 pub mod Helpers

@@ -1,7 +1,6 @@
 -- `sqrt` gives the nearest `f32`: with the values in units of 2 ^ -149, x of X units, its root y of Y and any other z ≥ 0 of the format of
--- Z,
--- the root lies on y's side of the middle of y and z: 4 * X * 2 ^ 149 is at most (Y + Z) squared where Y < Z, and at least that where Z <
--- Y. Assumes nothing.
+-- Z, the root lies on y's side of the middle of y and z: 4 * X * 2 ^ 149 is at most (Y + Z) squared where Y < Z, and at least that where Z
+-- < Y. Assumes nothing.
 use mathlib.Core.Path.{_≡_, refl, sym, ap, _∙_, subst}
 use mathlib.Core.Logic.{_⊎_, inl, inr}
 use Prim.Native.Nat.{ℕ, zero, suc, _+_, _-_, _*_, _/_, _%_, _^_, _≤_, _<_, compare, Ordering}

@@ -1,6 +1,5 @@
 -- A value of a format is its sign and its size: two that fit and have the same are equal. And its bit pattern, from its sign and its size,
--- and back.
--- Assumes nothing.
+-- and back. Assumes nothing.
 use mathlib.Core.Path.{_≡_, refl, sym, ap, _∙_, subst}
 use mathlib.Core.Logic.{_⊎_, inl, inr}
 use Prim.Native.Nat.{ℕ, zero, suc, min, _+_, _-_, _*_, _/_, _%_, _^_, _≤_, _<_}

@@ -1,6 +1,5 @@
 -- The Rust's decimal constants by their bit patterns, as a compiled literal has them; `Decimals` of `Claims` says that each is the nearest
--- to its decimal.
--- Document 01 names them where they are used. Definitions only. Assumes nothing.
+-- to its decimal. Document 01 names them where they are used. Definitions only. Assumes nothing.
 use lib.Ieee.{Float, binary32, binary64, ofBits}
 
 -- 0.02 as an `f32`

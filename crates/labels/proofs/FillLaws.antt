@@ -22,7 +22,8 @@ use Rattle.regions.specs.Labels.{Grid, Linked, first?, here, label, leader, nea
 pub On : List ℕ → ℕ → ℕ → Type 0
 On st k c = (i : ℕ) × (i < k) × (getD st i 0 ≡ c)
 
--- The labels given so far are right and at most `v`; what is near a cell with a label has one too, unless that cell is `o` or on the stack; and the stack holds cells of label `v`.
+-- The labels given so far are right and at most `v`; what is near a cell with a label has one too, unless that cell is `o` or on the stack;
+-- and the stack holds cells of label `v`.
 pub record Fill (ink : ℕ → Bool) (near : ℕ → ℕ → Bool) (n o v : ℕ) (l st : List ℕ) (k : ℕ) : Type 0 where
   pub blank : (c : ℕ) → ink c ≡ false → getD l c 0 ≡ 0
   pub right : (c : ℕ) → ink c ≡ true → (getD l c 0 ≡ MARK → ⊥) → (getD l c 0 ≡ label ink near n c) × (label ink near n c ≤ v)
@@ -40,12 +41,14 @@ module _ (ink : ℕ → Bool) (near : ℕ → ℕ → Bool) (n : ℕ) (g : Grid 
   marked-ink {l = l} s c m = ⊎-elim (λ i. i) (λ i. absurd (let z : getD l c 0 ≡ 0 = s .blank c i in omega arith)) (which (ink c))
 
   module _ (v : ℕ) (f : v ≡ MARK → ⊥) where
-    module _ (o j k : ℕ) (l st : List ℕ) (s : Fill ink near n o v l st k) (e : getD l j 0 ≡ MARK) (h : k < length st) (q : label ink near n j ≡ v) where
+    module _ (o j k : ℕ) (l st : List ℕ) (s : Fill ink near n o v l st k) (e : getD l j 0 ≡ MARK) (h : k < length st)
+        (q : label ink near n j ≡ v) where
       i-j : ink j ≡ true
       i-j = marked-ink s j e
 
       -- a cell that is no mark afterwards is `j`, or was none before
-      was : (c : ℕ) → (getD (set l j v) c 0 ≡ MARK → ⊥) → (c ≡ j) ⊎ ((c ≡ j → ⊥) × (getD l c 0 ≡ MARK → ⊥) × (getD (set l j v) c 0 ≡ getD l c 0))
+      was : (c : ℕ) → (getD (set l j v) c 0 ≡ MARK → ⊥)
+          → (c ≡ j) ⊎ ((c ≡ j → ⊥) × (getD l c 0 ≡ MARK → ⊥) × (getD (set l j v) c 0 ≡ getD l c 0))
       was c m = ⊎-elim (λ p. inl (p .0)) (λ p. inr (p .0, (λ y. m (p .1 ∙ y)), p .1)) (at-set l j v c (marked-in l j e))
 
       now-shut : (c : ℕ) → Shut near l c → Shut near (set l j v) c
@@ -65,21 +68,26 @@ module _ (ink : ℕ → Bool) (near : ℕ → ℕ → Bool) (n : ℕ) (g : Grid 
       push-fill : Fill ink near n o v (set l j v) (set st k j) (k + 1)
       push-fill = record {
         blank = λ c i. ⊎-elim (λ p. absurd (clash i-j (rw (p .0) at i))) (λ p. p .1 ∙ s .blank c i) (at-set l j v c (marked-in l j e));
-        right = λ c i m. ⊎-elim (λ p. rw p (getD-set-same l j v 0 (marked-in l j e) ∙ sym q, omega arith)) (λ p. (p .2 ∙ s .right c i (p .1) .0, s .right c i (p .1) .1)) (was c m);
-        closed = λ c i m. ⊎-elim (λ p. inr (inl (rw p on-top))) (λ p. ⊎-elim inl (λ w. inr (⊎-elim (λ x. inl (now-on c x)) (λ x. inr (now-shut c x)) w)) (s .closed c i (p .1))) (was c m);
+        right = λ c i m. ⊎-elim (λ p. rw p (getD-set-same l j v 0 (marked-in l j e) ∙ sym q, omega arith))
+            (λ p. (p .2 ∙ s .right c i (p .1) .0, s .right c i (p .1) .1)) (was c m);
+        closed = λ c i m. ⊎-elim (λ p. inr (inl (rw p on-top)))
+            (λ p. ⊎-elim inl (λ w. inr (⊎-elim (λ x. inl (now-on c x)) (λ x. inr (now-shut c x)) w)) (s .closed c i (p .1))) (was c m);
         stacked = λ i b. ⊎-elim (λ p. rw (p .1) (i-j, q)) (λ p. rw (p .1) (s .stacked i (omega arith))) (at-set st k j i h);
       }
 
     -- A visit of a cell whose label is `v`, where a mark has a place on the stack.
-    pub step-fill : {o j k k′ : ℕ} {l st l′ st′ : List ℕ} → Step v j l st k l′ st′ k′ → Safe l st k → (ink j ≡ true → label ink near n j ≡ v) → Fill ink near n o v l st k → Fill ink near n o v l′ st′ k′
+    pub step-fill : {o j k k′ : ℕ} {l st l′ st′ : List ℕ} → Step v j l st k l′ st′ k′ → Safe l st k
+        → (ink j ≡ true → label ink near n j ≡ v) → Fill ink near n o v l st k → Fill ink near n o v l′ st′ k′
     step-fill {o} {j} (push {l = l} {st = st} {k = k} e h) b q s = push-fill o j k l st s e h (q (marked-ink s j e))
     step-fill (pass e) b q s = s
 
     -- Visits of cells near `o`, which has the label `v`.
-    pub run-fill : {o k k′ : ℕ} {l st l′ st′ : List ℕ} → Run (λ j. near o j ≡ true) v l st k l′ st′ k′ → Safe l st k → ink o ≡ true → label ink near n o ≡ v → Fill ink near n o v l st k → Fill ink near n o v l′ st′ k′
+    pub run-fill : {o k k′ : ℕ} {l st l′ st′ : List ℕ} → Run (λ j. near o j ≡ true) v l st k l′ st′ k′ → Safe l st k → ink o ≡ true
+        → label ink near n o ≡ v → Fill ink near n o v l st k → Fill ink near n o v l′ st′ k′
     run-fill stop b i q s = s
     run-fill {o} (on j r p h t) b i q s =
-        step-fill t (run-safe v f (λ d. near o d ≡ true) r b) (λ x. sym (label-same ink near n g (step (here i) p x)) ∙ q) (run-fill r b i q s)
+        step-fill t (run-safe v f (λ d. near o d ≡ true) r b) (λ x. sym (label-same ink near n g (step (here i) p x)) ∙ q)
+        (run-fill r b i q s)
 
   module _ (v : ℕ) where
     -- The cell on top is taken from the stack, and is the one that is looked at.
@@ -88,12 +96,14 @@ module _ (ink : ℕ → Bool) (near : ℕ → ℕ → Bool) (n : ℕ) (g : Grid 
     pop-fill k l st s = record {
       blank = s .blank;
       right = s .right;
-      closed = λ c i m. ⊎-elim (λ p. absurd (omega (arith, g .within c i))) (λ w. ⊎-elim (λ x. top c x) (λ x. inr (inr x)) w) (s .closed c i m);
+      closed = λ c i m. ⊎-elim (λ p. absurd (omega (arith, g .within c i))) (λ w. ⊎-elim (λ x. top c x) (λ x. inr (inr x)) w)
+          (s .closed c i m);
       stacked = λ i b. s .stacked i (omega arith);
     }
       where
         top : (c : ℕ) → On st (k + 1) c → (c ≡ getD st k 0) ⊎ (On st k c ⊎ Shut near l c)
-        top c (i, b, e) = ⊎-elim (λ p. inl (sym e ∙ ap (λ (x : ℕ). getD st x 0) p)) (λ p. inr (inl (i, p, e))) (at-or-below i k (rw add-one at b))
+        top c (i, b, e) = ⊎-elim (λ p. inl (sym e ∙ ap (λ (x : ℕ). getD st x 0) p)) (λ p. inr (inl (i, p, e)))
+            (at-or-below i k (rw add-one at b))
 
     -- Once no ink cell near it is a mark, it is a cell as any other.
     pub shut-fill : (o k : ℕ) (l st : List ℕ) → Fill ink near n o v l st k → Shut near l o → Fill ink near n n v l st k
@@ -105,7 +115,8 @@ module _ (ink : ℕ → Bool) (near : ℕ → ℕ → Bool) (n : ℕ) (g : Grid 
     }
 
     -- With nothing on the stack, what is linked to a cell with a label has one.
-    pub linked-done : (l st : List ℕ) → Fill ink near n n v l st 0 → {a b : ℕ} → Linked ink near a b → (getD l a 0 ≡ MARK → ⊥) → getD l b 0 ≡ MARK → ⊥
+    pub linked-done : (l st : List ℕ) → Fill ink near n n v l st 0 → {a b : ℕ} → Linked ink near a b → (getD l a 0 ≡ MARK → ⊥)
+        → getD l b 0 ≡ MARK → ⊥
     unfolding On Shut
     linked-done l st s (here i) m = m
     linked-done l st s (step {b = b} {c = c} r nr i) m =
@@ -124,15 +135,18 @@ module _ (ink : ℕ → Bool) (near : ℕ → ℕ → Bool) (n : ℕ) (g : Grid 
     }
 
   module _ (v : ℕ) (f : v ≡ MARK → ⊥) where
-    pub emptied-kept : {k k′ : ℕ} {l st l′ st′ : List ℕ} → Emptied near v l st k l′ st′ k′ → (c : ℕ) → getD l′ c 0 ≡ MARK → getD l c 0 ≡ MARK
+    pub emptied-kept : {k k′ : ℕ} {l st l′ st′ : List ℕ} → Emptied near v l st k l′ st′ k′ → (c : ℕ) → getD l′ c 0 ≡ MARK
+        → getD l c 0 ≡ MARK
     emptied-kept begin c m = m
     emptied-kept (pop {st′ = st′} {k′ = k′} e r t) c m = emptied-kept e c (run-kept v f (λ j. near (getD st′ k′ 0) j ≡ true) r c m)
 
     pub emptied-safe : {k k′ : ℕ} {l st l′ st′ : List ℕ} → Emptied near v l st k l′ st′ k′ → Safe l st k → Safe l′ st′ k′
     emptied-safe begin s = s
-    emptied-safe (pop {st′ = st′} {k′ = k′} e r t) s = run-safe v f (λ j. near (getD st′ k′ 0) j ≡ true) r (pop-safe _ _ _ (emptied-safe e s))
+    emptied-safe (pop {st′ = st′} {k′ = k′} e r t) s =
+        run-safe v f (λ j. near (getD st′ k′ 0) j ≡ true) r (pop-safe _ _ _ (emptied-safe e s))
 
-    pub emptied-fill : {k k′ : ℕ} {l st l′ st′ : List ℕ} → Emptied near v l st k l′ st′ k′ → Safe l st k → Fill ink near n n v l st k → Fill ink near n n v l′ st′ k′
+    pub emptied-fill : {k k′ : ℕ} {l st l′ st′ : List ℕ} → Emptied near v l st k l′ st′ k′ → Safe l st k → Fill ink near n n v l st k
+        → Fill ink near n n v l′ st′ k′
     emptied-fill begin b s = s
     emptied-fill (pop {l′ = l′} {st′ = st′} {l″ = l″} {st″ = st″} {k′ = k′} {k″ = k″} e r t) b s =
         let q : Fill ink near n n v l′ st′ (k′ + 1) = emptied-fill e b s in
@@ -158,7 +172,8 @@ module _ (ink : ℕ → Bool) (near : ℕ → ℕ → Bool) (n : ℕ) (g : Grid 
   outer-skip s v l st o m = record {
     fill = o .fill;
     passed = λ c b. ⊎-elim (λ p. rw p m) (λ p. o .passed c p) (at-or-below c s (rw add-one at b));
-    counted = rw add-one (o .counted ∙ sym (count-no (first? ink near n) s (⊎-elim (λ p. absurd (new p)) (λ p. p) (which (first? ink near n s)))));
+    counted = rw add-one
+        (o .counted ∙ sym (count-no (first? ink near n) s (⊎-elim (λ p. absurd (new p)) (λ p. p) (which (first? ink near n s)))));
   }
     where
       new : first? ink near n s ≡ true → ⊥
@@ -166,10 +181,13 @@ module _ (ink : ℕ → Bool) (near : ℕ → ℕ → Bool) (n : ℕ) (g : Grid 
           let i = first-ink ink near n g s p in
           omega (arith, o .fill .right s i m .1, labelled ink near n g .counted s p, o .counted)
 
-  pub outer-mark : (s v : ℕ) (l st l′ st′ : List ℕ) → v + 1 < MARK → Outer ink near n s v l st → getD l s 0 ≡ MARK → Flooded near (v + 1) s l st l′ st′ → Outer ink near n (s + 1) (v + 1) l′ st′
+  pub outer-mark : (s v : ℕ) (l st l′ st′ : List ℕ) → v + 1 < MARK → Outer ink near n s v l st → getD l s 0 ≡ MARK
+      → Flooded near (v + 1) s l st l′ st′ → Outer ink near n (s + 1) (v + 1) l′ st′
   outer-mark s v l st l′ st′ small o m d = record {
-    fill = emptied-fill (v + 1) f (d .rest) (step-safe (v + 1) f (d .entry) safe) (step-fill (v + 1) f (d .entry) safe (λ i. label-s) (next-fill v l st (o .fill)));
-    passed = λ c b y. ⊎-elim (λ p. step-done (v + 1) f (d .entry) (rw p at (back c y))) (λ p. o .passed c p (step-kept (v + 1) f (d .entry) c (back c y))) (at-or-below c s (rw add-one at b));
+    fill = emptied-fill (v + 1) f (d .rest) (step-safe (v + 1) f (d .entry) safe)
+        (step-fill (v + 1) f (d .entry) safe (λ i. label-s) (next-fill v l st (o .fill)));
+    passed = λ c b y. ⊎-elim (λ p. step-done (v + 1) f (d .entry) (rw p at (back c y)))
+        (λ p. o .passed c p (step-kept (v + 1) f (d .entry) c (back c y))) (at-or-below c s (rw add-one at b));
     counted = omega (arith, o .counted, count-yes (first? ink near n) s new, ap (count (first? ink near n)) (add-one s));
   }
     where
@@ -200,4 +218,6 @@ module _ (ink : ℕ → Bool) (near : ℕ → ℕ → Bool) (n : ℕ) (g : Grid 
       label-s = omega (arith, labelled ink near n g .counted s new, o .counted)
 
   pub outer-end : (v : ℕ) (l st : List ℕ) → Outer ink near n n v l st → (c : ℕ) → getD l c 0 ≡ label ink near n c
-  outer-end v l st o c = ⊎-elim (λ i. o .fill .right c i (o .passed c (g .within c i)) .0) (λ i. o .fill .blank c i ∙ sym (label-none ink near n g c i)) (which (ink c))
+  outer-end v l st o c =
+      ⊎-elim (λ i. o .fill .right c i (o .passed c (g .within c i)) .0) (λ i. o .fill .blank c i ∙ sym (label-none ink near n g c i))
+      (which (ink c))

@@ -1,5 +1,5 @@
--- Laws of ink cells: pixels below a threshold counted row by row (row-step, box-step), the count of a cell (cell-ink-is), and marks as ink cells
--- (marks-inked). Assumes nothing.
+-- Laws of ink cells: pixels below a threshold counted row by row (row-step, box-step), the count of a cell (cell-ink-is), and marks as ink
+-- cells (marks-inked). Assumes nothing.
 use mathlib.Core.Bool.{Bool, _&&_, cond, false, true}
 use mathlib.Core.List.{List}
 use mathlib.Core.Path.{_∙_, _≡_, ap, refl}
@@ -34,7 +34,8 @@ pub row-none : (row : List ℕ) (t : ℕ) → sumTo 0 (rowBelow row t) ≡ 0
 unfolding fold
 row-none row t = refl
 
-pub row-step : (row : List ℕ) (t i : ℕ) {n v : ℕ} → n ≡ sumTo i (rowBelow row t) → v ≡ bit (ltb (getD row i 0) t) → n + v ≡ sumTo (i + 1) (rowBelow row t)
+pub row-step : (row : List ℕ) (t i : ℕ) {n v : ℕ} → n ≡ sumTo i (rowBelow row t) → v ≡ bit (ltb (getD row i 0) t)
+    → n + v ≡ sumTo (i + 1) (rowBelow row t)
 unfolding rowBelow
 row-step row t i en ev = rw (fold-suc, en, ev)
 
@@ -43,14 +44,17 @@ unfolding rowBelow
 row-le row t i = rw (mul-one i) at (sum-le 1 i (λ k. bit (ltb (getD row k 0) t)) (λ k. bit-le (ltb (getD row k 0) t)))
 
 -- ---- a box
-row-part : (s : List ℕ) (w x0 y lx t : ℕ) → sumTo lx (rowBelow (take lx (drop (y * w + x0) s)) t) ≡ boxRow _+_ 0 (below (plane w s) t) x0 lx y
+row-part : (s : List ℕ) (w x0 y lx t : ℕ)
+    → sumTo lx (rowBelow (take lx (drop (y * w + x0) s)) t) ≡ boxRow _+_ 0 (below (plane w s) t) x0 lx y
 unfolding boxRow rowBelow below
 row-part s w x0 y lx t =
     fold-ext _+_ 0 lx (λ i. bit (ltb (getD (take lx (drop (y * w + x0) s)) i 0) t)) (λ i. bit (ltb (plane w s (x0 + i) y) t))
     (λ i l. ap (λ (v : ℕ). bit (ltb v t)) (getD-part s (y * w + x0) lx i l ∙ ap (λ (k : ℕ). getD s k 0) (add-assoc (y * w) x0 i)))
 
-pub box-step : (s : List ℕ) (w x0 y0 lx j t : ℕ) {n r : ℕ} → (y0 + j) * w + x0 + lx ≤ length s → n ≡ box _+_ 0 (below (plane w s) t) x0 y0 lx j
-    → r ≡ sumTo (length (part ((y0 + j) * w + x0) ((y0 + j) * w + x0 + lx) s)) (rowBelow (part ((y0 + j) * w + x0) ((y0 + j) * w + x0 + lx) s) t)
+pub box-step : (s : List ℕ) (w x0 y0 lx j t : ℕ) {n r : ℕ} → (y0 + j) * w + x0 + lx ≤ length s
+    → n ≡ box _+_ 0 (below (plane w s) t) x0 y0 lx j
+    → r ≡ sumTo (length (part ((y0 + j) * w + x0) ((y0 + j) * w + x0 + lx) s))
+    (rowBelow (part ((y0 + j) * w + x0) ((y0 + j) * w + x0 + lx) s) t)
     → n + r ≡ box _+_ 0 (below (plane w s) t) x0 y0 lx (j + 1)
 box-step s w x0 y0 lx j t room en er =
     let d : (y0 + j) * w + x0 + lx - ((y0 + j) * w + x0) ≡ lx = omega arith in
@@ -86,11 +90,13 @@ cell-ink-is {s} {grid} {w} {h} held cx cy {t} lw lh et ex ey =
     let p = plane w s in
     let level-t : t ≡ level p w h (cx / 2) (cy / 2) = et ∙ held .held (cx / 2) (cy / 2) (omega arith) (omega arith) in
     rw (ex, ey)
-    (box-ext _+_ 0 (λ x y. bit (ltb (p x y) t)) (λ x y. bit (ltb (p x y) (level p w h (x / 16) (y / 16)))) (8 * cx) (8 * cy) (span8 w cx) (span8 h cy)
+    (box-ext _+_ 0 (λ x y. bit (ltb (p x y) t)) (λ x y. bit (ltb (p x y) (level p w h (x / 16) (y / 16)))) (8 * cx) (8 * cy) (span8 w cx)
+    (span8 h cy)
     (λ i j li lj. rw (half cx i (omega arith), half cy j (omega arith), level-t)))
 
 -- ---- marks
-pub marks-inked : (p : Plane) (w h : ℕ) (l old : List ℕ) → l ≡ drawn (cells8 w) (cells8 h) (markAt p w h) old → Inked (inkCell p w h) (take (cellsOf w h) l)
+pub marks-inked : (p : Plane) (w h : ℕ) (l old : List ℕ) → l ≡ drawn (cells8 w) (cells8 h) (markAt p w h) old
+    → Inked (inkCell p w h) (take (cellsOf w h) l)
 unfolding Inked inkCell markAt
 marks-inked p w h l old e c = go (decLt c (cellsOf w h))
   where

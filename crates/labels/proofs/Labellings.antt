@@ -48,7 +48,8 @@ module _ (w n : ℕ) (l₀ st₀ : List ℕ) (e : length l₀ ≡ n) where
     same-stack = refl;
   }
 
-  pub labelling-skip : {s v : ℕ} {l st : List ℕ} → s < length l → Labelling w n l₀ st₀ s v l st → (getD l s 0 ≡ MARK → ⊥) → Labelling w n l₀ st₀ (s + 1) v l st
+  pub labelling-skip : {s v : ℕ} {l st : List ℕ} → s < length l → Labelling w n l₀ st₀ s v l st → (getD l s 0 ≡ MARK → ⊥)
+      → Labelling w n l₀ st₀ (s + 1) v l st
   labelling-skip {s} {v} {l} {st} b p m = record {
     outer = λ ink h. outer-skip ink (near w) n (here ink h) s v l st (p .outer ink h) m;
     small = omega (arith, p .small);
@@ -57,7 +58,8 @@ module _ (w n : ℕ) (l₀ st₀ : List ℕ) (e : length l₀ ≡ n) where
     same-stack = p .same-stack;
   }
 
-  pub labelling-mark : {s v : ℕ} {l st l′ st′ : List ℕ} → s < length l → v + 1 < MARK → Labelling w n l₀ st₀ s v l st → getD l s 0 ≡ MARK → Flooded (near w) (v + 1) s l st l′ st′ → length l′ ≡ length l → length st′ ≡ length st → Labelling w n l₀ st₀ (s + 1) (v + 1) l′ st′
+  pub labelling-mark : {s v : ℕ} {l st l′ st′ : List ℕ} → s < length l → v + 1 < MARK → Labelling w n l₀ st₀ s v l st → getD l s 0 ≡ MARK
+      → Flooded (near w) (v + 1) s l st l′ st′ → length l′ ≡ length l → length st′ ≡ length st → Labelling w n l₀ st₀ (s + 1) (v + 1) l′ st′
   labelling-mark {s} {v} {l} {st} {l′} {st′} a b p m d same same-stack = record {
     outer = λ ink h. outer-mark ink (near w) n (here ink h) s v l st l′ st′ b (p .outer ink h) m d;
     small = omega (arith, p .small);
@@ -66,13 +68,16 @@ module _ (w n : ℕ) (l₀ st₀ : List ℕ) (e : length l₀ ≡ n) where
     same-stack = same-stack ∙ p .same-stack;
   }
 
-  pub labelling-end : {s v : ℕ} {l st : List ℕ} → length l ≤ s → Labelling w n l₀ st₀ s v l st → (ink : ℕ → Bool) → Inked ink l₀ → ((c : ℕ) → getD l c 0 ≡ label ink (near w) n c) × (v ≡ count (first? ink (near w) n) n)
+  pub labelling-end : {s v : ℕ} {l st : List ℕ} → length l ≤ s → Labelling w n l₀ st₀ s v l st → (ink : ℕ → Bool) → Inked ink l₀
+      → ((c : ℕ) → getD l c 0 ≡ label ink (near w) n c) × (v ≡ count (first? ink (near w) n) n)
   labelling-end {s} {v} {l} {st} q p ink h =
-      let o : Outer ink (near w) n n v l st = subst (λ (x : ℕ). Outer ink (near w) n x v l st) (omega (arith, p .size, p .upto)) (p .outer ink h) in
+      let o : Outer ink (near w) n n v l st =
+      subst (λ (x : ℕ). Outer ink (near w) n x v l st) (omega (arith, p .size, p .upto)) (p .outer ink h) in
       ((λ c. outer-end ink (near w) n (here ink h) v l st o c), o .counted)
 
 -- A label is at most the number of groups, and there are no more groups than cells.
-pub label-most : (ink : ℕ → Bool) (w n : ℕ) → ((c : ℕ) → ink c ≡ true → c < n) → (c : ℕ) → label ink (near w) n c ≤ count (first? ink (near w) n) n
+pub label-most : (ink : ℕ → Bool) (w n : ℕ) → ((c : ℕ) → ink c ≡ true → c < n) → (c : ℕ)
+    → label ink (near w) n c ≤ count (first? ink (near w) n) n
 label-most ink w n h c = ⊎-elim yes′ (λ i. omega (arith, label-none ink (near w) n g c i)) (which (ink c))
   where
     g : Grid ink (near w) n
@@ -87,13 +92,15 @@ label-most ink w n h c = ⊎-elim yes′ (λ i. omega (arith, label-none ink (ne
 pub groups-most : (ink : ℕ → Bool) (w n : ℕ) → count (first? ink (near w) n) n ≤ n
 groups-most ink w n = count-most (first? ink (near w) n) n
 
-pub one-full : {near : ℕ → ℕ → Bool} {v s : ℕ} {l st l′ st′ : List ℕ} {r : Next} → One near v s l st l′ st′ r → r ≡ Full → length st < length l
+pub one-full : {near : ℕ → ℕ → Bool} {v s : ℕ} {l st l′ st′ : List ℕ} {r : Next} → One near v s l st l′ st′ r → r ≡ Full
+    → length st < length l
 one-full (skipped a b c) e = absurd (let z : _≡_ {A = ℕ} 0 1 = cc in omega arith)
 one-full (filled a b) e = absurd (let z : _≡_ {A = ℕ} 0 1 = cc in omega arith)
 one-full (stopped h) e = h
 
 module _ (w n : ℕ) (l₀ st₀ : List ℕ) (e : length l₀ ≡ n) where
-  pub labelling-one : {s v v′ : ℕ} {l st l′ st′ : List ℕ} {r : Next} → s < length l → v + 1 < MARK → Labelling w n l₀ st₀ s v l st → One (near w) v s l st l′ st′ r → r ≡ At v′ → length l′ ≡ length l → length st′ ≡ length st → Labelling w n l₀ st₀ (s + 1) v′ l′ st′
+  pub labelling-one : {s v v′ : ℕ} {l st l′ st′ : List ℕ} {r : Next} → s < length l → v + 1 < MARK → Labelling w n l₀ st₀ s v l st
+      → One (near w) v s l st l′ st′ r → r ≡ At v′ → length l′ ≡ length l → length st′ ≡ length st → Labelling w n l₀ st₀ (s + 1) v′ l′ st′
   labelling-one {s} {v} {v′} {l} {st} a b p (skipped m f g) q x y =
       let z : v ≡ v′ = cc in
       rw (f, g, ← z) (labelling-skip w n l₀ st₀ e a p m)
@@ -117,7 +124,8 @@ past : (n m : ℕ) (st part : List ℕ) → m ≡ min n (length st) → length p
 past n m st part em same =
     let e : n ≡ length part + (n - m) = omega arith in
     let f : m + (n - m) ≡ n = omega arith in
-    ap (λ (k : ℕ). drop k (part ++ drop m st)) e ∙ drop-append-add part (drop m st) (n - m) ∙ drop-drop (n - m) m st ∙ ap (λ (k : ℕ). drop k st) f
+    ap (λ (k : ℕ). drop k (part ++ drop m st)) e ∙ drop-append-add part (drop m st) (n - m) ∙ drop-drop (n - m) m st
+    ∙ ap (λ (k : ℕ). drop k st) f
 
 pub answers-given : (w n m : ℕ) (l st l₁ st₁ : List ℕ) {r : Next} {v : ℕ} → n ≤ length l → m ≡ min n (length st)
     → Labels w n (take n l) (take m st) l₁ r → r ≡ At v → length l₁ ≡ length (take n l) → length st₁ ≡ length (take m st)

@@ -1,5 +1,5 @@
--- Laws of marks, of a visit and of visits one after the other: what each keeps (step-, run-), the loop over a row (Row), the loop that empties the stack
--- (Flow), and the answers where the stack is full. Assumes nothing.
+-- Laws of marks, of a visit and of visits one after the other: what each keeps (step-, run-), the loop over a row (Row), the loop that
+-- empties the stack (Flow), and the answers where the stack is full. Assumes nothing.
 use mathlib.Core.Bool.{Bool, false, true}
 use mathlib.Core.List.{List, [], _∷_}
 use mathlib.Core.Logic.{_⊎_, inl, inr, ⊎-elim}
@@ -117,7 +117,8 @@ module _ (v : ℕ) (f : v ≡ MARK → ⊥) where
   step-safe {j} (push {l = l} {st = st} {k = k} e b) s = record {
     room = omega (arith, marks-set l j v e f, length-set l j v, s .room);
     depth = omega (arith, length-set st k j);
-    below = λ i h. ⊎-elim (λ p. omega (arith, marked-in l j e, length-set l j v)) (λ p. omega (arith, length-set l j v, s .below i (omega arith))) (at-set st k j i b);
+    below = λ i h. ⊎-elim (λ p. omega (arith, marked-in l j e, length-set l j v))
+        (λ p. omega (arith, length-set l j v, s .below i (omega arith))) (at-set st k j i b);
   }
   step-safe (pass e) s = s
 
@@ -138,11 +139,13 @@ module _ (v : ℕ) (f : v ≡ MARK → ⊥) where
     run-safe stop s = s
     run-safe (on j r p h t) s = step-safe t (run-safe r s)
 
-    pub run-trans : {k k′ k″ : ℕ} {l st l′ st′ l″ st″ : List ℕ} → Run P v l st k l′ st′ k′ → Run P v l′ st′ k′ l″ st″ k″ → Run P v l st k l″ st″ k″
+    pub run-trans : {k k′ k″ : ℕ} {l st l′ st′ l″ st″ : List ℕ} → Run P v l st k l′ st′ k′ → Run P v l′ st′ k′ l″ st″ k″
+        → Run P v l st k l″ st″ k″
     run-trans r stop = r
     run-trans r (on j q p h t) = on j (run-trans r q) p h t
 
-    pub run-map : (Q : ℕ → Type 0) → ((j : ℕ) → P j → Q j) → {k k′ : ℕ} {l st l′ st′ : List ℕ} → Run P v l st k l′ st′ k′ → Run Q v l st k l′ st′ k′
+    pub run-map : (Q : ℕ → Type 0) → ((j : ℕ) → P j → Q j) → {k k′ : ℕ} {l st l′ st′ : List ℕ} → Run P v l st k l′ st′ k′
+        → Run Q v l st k l′ st′ k′
     run-map Q m stop = stop
     run-map Q m (on j r p h t) = on j (run-map Q m r) (m j p) h t
 
@@ -161,11 +164,13 @@ row-begin a b v l st k = record { from = omega arith; ran = stop; all = λ i h. 
 pub rowed-end : {a b v k₀ k j : ℕ} {l₀ st₀ l st : List ℕ} → b ≤ j → Row a b v l₀ st₀ k₀ l st k j → Rowed a b v l₀ st₀ k₀ l st k
 rowed-end h r = record { ran = r .ran; all = λ i q. r .all i (q .0, omega (arith, q .1)) }
 
-pub row-turn : {a b v k₀ k j k′ : ℕ} {l₀ st₀ l st l′ st′ : List ℕ} → (v ≡ MARK → ⊥) → Row a b v l₀ st₀ k₀ l st k j → j < b → j < length l → Step v j l st k l′ st′ k′ → Row a b v l₀ st₀ k₀ l′ st′ k′ (j + 1)
+pub row-turn : {a b v k₀ k j k′ : ℕ} {l₀ st₀ l st l′ st′ : List ℕ} → (v ≡ MARK → ⊥) → Row a b v l₀ st₀ k₀ l st k j → j < b → j < length l
+    → Step v j l st k l′ st′ k′ → Row a b v l₀ st₀ k₀ l′ st′ k′ (j + 1)
 row-turn {v = v} {j = j} f r h m t = record {
   from = omega (arith, r .from);
   ran = on j (r .ran) (r .from, h) m t;
-  all = λ i q y. ⊎-elim (λ p. step-done v f t (rw p at y)) (λ p. r .all i (q .0, p) (step-kept v f t i y)) (at-or-below i j (rw add-one at (q .1)));
+  all = λ i q y. ⊎-elim (λ p. step-done v f t (rw p at y)) (λ p. r .all i (q .0, p) (step-kept v f t i y))
+      (at-or-below i j (rw add-one at (q .1)));
   same = step-length v f t ∙ r .same;
   same-stack = step-stack v f t ∙ r .same-stack;
 }
@@ -178,7 +183,8 @@ pub record Flow (near : ℕ → ℕ → Bool) (v n : ℕ) (l₀ st₀ : List ℕ
   pub size : length l ≡ n
   pub same-stack : length st ≡ length st₀
 
-pub flow-turn : {near : ℕ → ℕ → Bool} {v n k₀ k k′ : ℕ} {l₀ st₀ l st l′ st′ : List ℕ} → (v ≡ MARK → ⊥) → Flow near v n l₀ st₀ k₀ l st k → 0 < k
+pub flow-turn : {near : ℕ → ℕ → Bool} {v n k₀ k k′ : ℕ} {l₀ st₀ l st l′ st′ : List ℕ} → (v ≡ MARK → ⊥) → Flow near v n l₀ st₀ k₀ l st k
+    → 0 < k
     → Run (λ j. near (getD st (k - 1) 0) j ≡ true) v l st (k - 1) l′ st′ k′
     → Shut near l′ (getD st (k - 1) 0)
     → length st′ ≡ length st
@@ -205,10 +211,12 @@ pub or-full : {P : ℕ → Type 0} {l st : List ℕ} {r : Depth} → Or P l st r
 or-full (at-or p) e = absurd (let z : _≡_ {A = ℕ} 0 1 = cc in omega arith)
 or-full (full-or h) e = h
 
-pub fills-yes : {near : ℕ → ℕ → Bool} {v s : ℕ} {l st l′ st′ : List ℕ} {r : Bool} → Fills near v s l st l′ st′ r → r ≡ true → Flooded near v s l st l′ st′
+pub fills-yes : {near : ℕ → ℕ → Bool} {v s : ℕ} {l st l′ st′ : List ℕ} {r : Bool} → Fills near v s l st l′ st′ r → r ≡ true
+    → Flooded near v s l st l′ st′
 fills-yes (fills d) e = d
 fills-yes (stops h) e = absurd (let z : _≡_ {A = ℕ} 0 1 = cc in omega arith)
 
-pub fills-no : {near : ℕ → ℕ → Bool} {v s : ℕ} {l st l′ st′ : List ℕ} {r : Bool} → Fills near v s l st l′ st′ r → r ≡ false → length st < length l
+pub fills-no : {near : ℕ → ℕ → Bool} {v s : ℕ} {l st l′ st′ : List ℕ} {r : Bool} → Fills near v s l st l′ st′ r → r ≡ false
+    → length st < length l
 fills-no (fills d) e = absurd (let z : _≡_ {A = ℕ} 0 1 = cc in omega arith)
 fills-no (stops h) e = h

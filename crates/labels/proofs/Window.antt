@@ -1,5 +1,5 @@
--- The cells near a cell `i` of a grid of `h` rows of `w` cells, as the code goes through them: row after row, in each the cells from one column up to
--- another. Assumes nothing.
+-- The cells near a cell `i` of a grid of `h` rows of `w` cells, as the code goes through them: row after row, in each the cells from one
+-- column up to another. Assumes nothing.
 use mathlib.Core.Bool.{true}
 use mathlib.Core.List.{List}
 use mathlib.Core.Logic.{⊎-elim}
@@ -21,7 +21,8 @@ pub row-within : (g h w x : ℕ) → g < h → x ≤ w → g * w + x ≤ h * w
 row-within g h w x p q = omega (arith, mul-le-mul-right w p, suc-mul g w)
 
 -- a cell of a row of the window is near
-pub row-near : (w i g x₀ x₁ : ℕ) → x₀ ≡ i % w - 3 → x₁ ≡ min (i % w + 4) w → i / w - 3 ≤ g → g < i / w + 4 → (j : ℕ) → InRow (g * w + x₀) (g * w + x₁) j → near w i j ≡ true
+pub row-near : (w i g x₀ x₁ : ℕ) → x₀ ≡ i % w - 3 → x₁ ≡ min (i % w + 4) w → i / w - 3 ≤ g → g < i / w + 4 → (j : ℕ)
+    → InRow (g * w + x₀) (g * w + x₁) j → near w i j ≡ true
 row-near w i g x₀ x₁ p q r s j (a, b) =
     near-of w i j
     (rw col (close-of _ _ (omega arith) (omega arith)))
@@ -43,7 +44,8 @@ row-near w i g x₀ x₁ p q r s j (a, b) =
     row = ap (λ (y : ℕ). y / w) at ∙ digits-div g small
 
 -- a near cell is in a row of the window
-pub near-row : (w h i x₀ x₁ : ℕ) → 0 < w → x₀ ≡ i % w - 3 → x₁ ≡ min (i % w + 4) w → (d : ℕ) → d < h * w → near w i d ≡ true → (i / w - 3 ≤ d / w) × (d / w < min (i / w + 4) h) × InRow (d / w * w + x₀) (d / w * w + x₁) d
+pub near-row : (w h i x₀ x₁ : ℕ) → 0 < w → x₀ ≡ i % w - 3 → x₁ ≡ min (i % w + 4) w → (d : ℕ) → d < h * w → near w i d ≡ true
+    → (i / w - 3 ≤ d / w) × (d / w < min (i / w + 4) h) × InRow (d / w * w + x₀) (d / w * w + x₁) d
 near-row w h i x₀ x₁ pos p q d b nr =
     let c₁ = close-left _ _ (near-columns w i d nr) in
     let c₂ = close-right _ _ (near-columns w i d nr) in
@@ -64,7 +66,8 @@ pub record Rows (w i x₀ x₁ y₀ v : ℕ) (l₀ st₀ : List ℕ) (k₀ : ℕ
   pub same-stack : length st ≡ length st₀
 
 pub rows-begin : (w i x₀ x₁ y₀ v : ℕ) (l st : List ℕ) (k : ℕ) → Rows w i x₀ x₁ y₀ v l st k l st k y₀
-rows-begin w i x₀ x₁ y₀ v l st k = record { from = omega arith; ran = stop; all = λ r a b. absurd (omega arith); same = refl; same-stack = refl }
+rows-begin w i x₀ x₁ y₀ v l st k =
+    record { from = omega arith; ran = stop; all = λ r a b. absurd (omega arith); same = refl; same-stack = refl }
 
 pub rows-turn : {w i x₀ x₁ y₀ v k₀ k g k′ : ℕ} {l₀ st₀ l st l′ st′ : List ℕ} → (v ≡ MARK → ⊥) → Rows w i x₀ x₁ y₀ v l₀ st₀ k₀ l st k g
     → ((j : ℕ) → InRow (g * w + x₀) (g * w + x₁) j → near w i j ≡ true)
@@ -84,7 +87,8 @@ rows-turn {w} {i} {x₀} {x₁} {v = v} {g = g} f r n t all e = record {
   same-stack = e ∙ r .same-stack;
 }
 
-pub rows-end : (h : ℕ) {w i x₀ x₁ v k₀ k g : ℕ} {l₀ st₀ l st : List ℕ} → 0 < w → length l ≡ h * w → x₀ ≡ i % w - 3 → x₁ ≡ min (i % w + 4) w → min (i / w + 4) h ≤ g → Rows w i x₀ x₁ (i / w - 3) v l₀ st₀ k₀ l st k g → Shut (near w) l i
+pub rows-end : (h : ℕ) {w i x₀ x₁ v k₀ k g : ℕ} {l₀ st₀ l st : List ℕ} → 0 < w → length l ≡ h * w → x₀ ≡ i % w - 3 → x₁ ≡ min (i % w + 4) w
+    → min (i / w + 4) h ≤ g → Rows w i x₀ x₁ (i / w - 3) v l₀ st₀ k₀ l st k g → Shut (near w) l i
 unfolding Shut
 rows-end h {w} {i} {x₀} {x₁} {l = l} pos e p q z r d nr m =
     let y = near-row w h i x₀ x₁ pos p q d (omega (arith, marked-in l d m)) nr in

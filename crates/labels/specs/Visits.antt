@@ -1,6 +1,6 @@
--- The flood fill over a list of labels and a stack, as document 01 has it under "Cell labels": only an ink cell without a label is pushed, and it gets its
--- label as it is pushed. What a visit of a cell, the visits of a cell's neighbours and the fill of a group do. In the list 0 is a cell without ink,
--- `MARK` an ink cell that has no label yet. Definitions only. Assumes nothing.
+-- The flood fill over a list of labels and a stack, as document 01 has it under "Cell labels": only an ink cell without a label is pushed,
+-- and it gets its label as it is pushed. What a visit of a cell, the visits of a cell's neighbours and the fill of a group do. In the list
+-- 0 is a cell without ink, `MARK` an ink cell that has no label yet. Definitions only. Assumes nothing.
 use mathlib.Core.Bool.{Bool, cond, false, true}
 use mathlib.Core.List.{List, [], _∷_}
 use mathlib.Core.Path.{_≡_}
@@ -29,7 +29,8 @@ pub data Step (v j : ℕ) : List ℕ → List ℕ → ℕ → List ℕ → List 
 -- Visits one after the other, each of a cell in the list that meets `P`.
 pub data Run (P : ℕ → Type 0) (v : ℕ) : List ℕ → List ℕ → ℕ → List ℕ → List ℕ → ℕ → Type 0 where
   stop : {l st : List ℕ} {k : ℕ} → Run P v l st k l st k
-  on : {l st l′ st′ l″ st″ : List ℕ} {k k′ k″ : ℕ} (j : ℕ) → Run P v l st k l′ st′ k′ → P j → j < length l′ → Step v j l′ st′ k′ l″ st″ k″ → Run P v l st k l″ st″ k″
+  on : {l st l′ st′ l″ st″ : List ℕ} {k k′ k″ : ℕ} (j : ℕ) → Run P v l st k l′ st′ k′ → P j → j < length l′ → Step v j l′ st′ k′ l″ st″ k″
+      → Run P v l st k l″ st″ k″
 
 -- The cells from `a` up to `b` of the list.
 abbrev pub InRow : ℕ → ℕ → ℕ → Type 0
@@ -42,7 +43,8 @@ Shut near l c = (d : ℕ) → near c d ≡ true → getD l d 0 ≡ MARK → ⊥
 -- Cells taken from the stack one after the other, the last pushed first, and all cells near each of them visited.
 pub data Emptied (near : ℕ → ℕ → Bool) (v : ℕ) : List ℕ → List ℕ → ℕ → List ℕ → List ℕ → ℕ → Type 0 where
   begin : {l st : List ℕ} {k : ℕ} → Emptied near v l st k l st k
-  pop : {l st l′ st′ l″ st″ : List ℕ} {k k′ k″ : ℕ} → Emptied near v l st k l′ st′ (k′ + 1) → Run (λ j. near (getD st′ k′ 0) j ≡ true) v l′ st′ k′ l″ st″ k″ → Shut near l″ (getD st′ k′ 0) → Emptied near v l st k l″ st″ k″
+  pop : {l st l′ st′ l″ st″ : List ℕ} {k k′ k″ : ℕ} → Emptied near v l st k l′ st′ (k′ + 1)
+      → Run (λ j. near (getD st′ k′ 0) j ≡ true) v l′ st′ k′ l″ st″ k″ → Shut near l″ (getD st′ k′ 0) → Emptied near v l st k l″ st″ k″
 
 -- The fill of a group from the cell `s`: a visit of `s`, and then until the stack is empty.
 pub record Flooded (near : ℕ → ℕ → Bool) (v s : ℕ) (l st l′ st′ : List ℕ) : Type 0 where
@@ -69,7 +71,8 @@ pub record Neared (w i v : ℕ) (l₀ st₀ : List ℕ) (k₀ : ℕ) (l st : Lis
 
 -- ---- a stack that may be too short
 
--- The answer of a step that pushes: the depth then, or that a push found the stack full. That happens only where the stack has fewer places than there are cells.
+-- The answer of a step that pushes: the depth then, or that a push found the stack full. That happens only where the stack has fewer places
+-- than there are cells.
 pub data Or (P : ℕ → Type 0) (l st : List ℕ) : Depth → Type 0 where
   at-or : {k : ℕ} → P k → Or P l st (At k)
   full-or : length st < length l → Or P l st Full

@@ -1,5 +1,5 @@
--- A loop that draws a plane into a list, place by place, with the place's column and row counted beside it: what it keeps (Drawing), at the begin,
--- in a turn that goes on in the row (drawing-on) or begins the next row (drawing-row), and at the end. Assumes nothing.
+-- A loop that draws a plane into a list, place by place, with the place's column and row counted beside it: what it keeps (Drawing), at the
+-- begin, in a turn that goes on in the row (drawing-on) or begins the next row (drawing-row), and at the end. Assumes nothing.
 use mathlib.Core.List.{List}
 use mathlib.Core.Path.{_∙_, _≡_, refl}
 use Prim.Native.Nat.{_*_, _+_, _-_, _<_, _≤_, ℕ}
@@ -20,7 +20,8 @@ pub record Drawing (w h : ℕ) (g : Plane) (old list : List ℕ) (k x y : ℕ) :
   pub column : x ≤ w - 1
 
 pub drawing-begin : (w h : ℕ) (g : Plane) (old : List ℕ) → Drawing w h g old old 0 0 0
-drawing-begin w h g old = record { upto = omega arith; same = refl; held = written-none (rowwise w g) old; place = zero-place w; column = omega arith }
+drawing-begin w h g old =
+    record { upto = omega arith; same = refl; held = written-none (rowwise w g) old; place = zero-place w; column = omega arith }
 
 module _ {w h : ℕ} {g : Plane} {old list : List ℕ} {k x y : ℕ} (d : Drawing w h g old list k x y) (within : k < w * h) where
   pub drawing-x : x < w
@@ -37,10 +38,12 @@ module _ {w h : ℕ} {g : Plane} {old list : List ℕ} {k x y : ℕ} (d : Drawin
     longer = length-set list k v ∙ d .same
 
     pub drawing-on : (x + 1 ≡ w → ⊥) → Drawing w h g old (set list k v) (k + 1) (x + 1) y
-    drawing-on more = record { upto = omega arith; same = longer; held = step; place = omega (arith, d .place); column = omega (arith, drawing-x) }
+    drawing-on more = record
+        { upto = omega arith; same = longer; held = step; place = omega (arith, d .place); column = omega (arith, drawing-x) }
 
     pub drawing-row : x + 1 ≡ w → Drawing w h g old (set list k v) (k + 1) 0 (y + 1)
-    drawing-row full = record { upto = omega arith; same = longer; held = step; place = next-row k x y w (d .place) full; column = omega arith }
+    drawing-row full = record
+        { upto = omega arith; same = longer; held = step; place = next-row k x y w (d .place) full; column = omega arith }
 
 pub drawing-end : {w h : ℕ} {g : Plane} {old list : List ℕ} {k x y : ℕ} → Drawing w h g old list k x y → w * h ≤ k → list ≡ drawn w h g old
 drawing-end {w} {h} {k = k} d past =

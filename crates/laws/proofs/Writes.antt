@@ -1,4 +1,5 @@
--- Stores into lists: lists written from functions that agree, values that stay small, an element after a store, and lists of zeros. Assumes nothing.
+-- Stores into lists: lists written from functions that agree, values that stay small, an element after a store, and lists of zeros. Assumes
+-- nothing.
 use mathlib.Core.List.{List, _++_}
 use mathlib.Core.Logic.{_⊎_, inl, inr}
 use mathlib.Core.Path.{_∙_, _≡_, ap, sym}
@@ -33,7 +34,8 @@ small-drawn m w h g old small i below =
     rw (getD-written (w * h) (rowwise w g) old i 0 below) (small (i % w) (i / w) (col-lt i w h below) (row-lt i w h below))
 
 -- an element after a store
-pub at-set : (l : List ℕ) (j v c : ℕ) → j < length l → ((c ≡ j) × (getD (set l j v) c 0 ≡ v)) ⊎ ((c ≡ j → ⊥) × (getD (set l j v) c 0 ≡ getD l c 0))
+pub at-set : (l : List ℕ) (j v c : ℕ) → j < length l
+    → ((c ≡ j) × (getD (set l j v) c 0 ≡ v)) ⊎ ((c ≡ j → ⊥) × (getD (set l j v) c 0 ≡ getD l c 0))
 at-set l j v c within = go (ℕ-discrete c j)
   where
     go : Dec (c ≡ j) → ((c ≡ j) × (getD (set l j v) c 0 ≡ v)) ⊎ ((c ≡ j → ⊥) × (getD (set l j v) c 0 ≡ getD l c 0))
@@ -43,4 +45,5 @@ at-set l j v c within = go (ℕ-discrete c j)
 -- a list of zeros as long as another
 pub is-zeros : (old l : List ℕ) → length l ≡ length old → ((i : ℕ) → i < length l → getD l i 0 ≡ 0) → l ≡ zeros old
 is-zeros old l same none =
-    ext-getD 0 l (zeros old) (same ∙ sym (length-replicate (length old) 0)) (λ i b. none i b ∙ sym (getD-replicate (length old) i 0 0 (omega arith)))
+    ext-getD 0 l (zeros old) (same ∙ sym (length-replicate (length old) 0))
+    (λ i b. none i b ∙ sym (getD-replicate (length old) i 0 0 (omega arith)))

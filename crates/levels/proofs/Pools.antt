@@ -41,7 +41,8 @@ two-most w h g x y = refl
 pub down-ext : (most : Bool) (w h : ℕ) (f g : Plane) → Alike w h f g → Alike w h (down most h f) (down most h g)
 unfolding down column
 down-ext most w h f g same x y lx ly =
-    fold-ext (joined most) (unit most) (many3 h y) (λ j. f x (from3 y + j)) (λ j. g x (from3 y + j)) (λ j l. same x (from3 y + j) lx (omega arith))
+    fold-ext (joined most) (unit most) (many3 h y) (λ j. f x (from3 y + j)) (λ j. g x (from3 y + j))
+    (λ j l. same x (from3 y + j) lx (omega arith))
 
 -- a list pooled across into mid, and down into itself
 pub pooled-drawn : (most : Bool) (w h : ℕ) (s old mid last : List ℕ) → mid ≡ drawn w h (across most w (plane w s)) old
@@ -49,7 +50,8 @@ pub pooled-drawn : (most : Bool) (w h : ℕ) (s old mid last : List ℕ) → mid
 unfolding pooled
 pooled-drawn most w h s old mid last em el =
     el ∙ drawn-ext w h (down most h (plane w mid)) (down most h (across most w (plane w s))) s
-    (down-ext most w h (plane w mid) (across most w (plane w s)) (λ x y lx ly. rw em (plane-drawn w h (across most w (plane w s)) old x y lx ly)))
+    (down-ext most w h (plane w mid) (across most w (plane w s))
+    (λ x y lx ly. rw em (plane-drawn w h (across most w (plane w s)) old x y lx ly)))
 
 -- thresholds of pooled lists, place by place
 pub pairwise-drawn : (w h : ℕ) (d l d₀ l₀ ds ls old : List ℕ)

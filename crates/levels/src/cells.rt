@@ -4,7 +4,16 @@ ghost use Prim.Native.Nat.{ℕ, _+_, _*_, _≤_, _<_};
 ghost use lib.ListN.{length, getD};
 ghost use Rattle.laws.specs.Plane.{plane, drawn, binsOf};
 ghost use Rattle.levels.specs.Level.{countRows, lowBin, highBin, span, cells, dark, light};
-ghost use Rattle.levels.specs.Steps.{Picture, Within, Bins, Paired, AtMost, sums, more, Bytes};
+ghost use Rattle.levels.specs.Steps.{
+  Picture,
+  Within,
+  Bins,
+  Paired,
+  AtMost,
+  sums,
+  more,
+  Bytes,
+};
 
 // Adds the bytes of a row of at most 16 pixels to two arrays of bins, by turns: two stores in a
 // row never wait for each other.

@@ -6,7 +6,16 @@ ghost use Rattle.laws.specs.Fold.{fold, written};
 ghost use Rattle.laws.specs.Lent.{UntouchedPast};
 ghost use Rattle.laws.specs.Plane.{plane, drawn, binsOf};
 ghost use Rattle.levels.specs.Level.{from3, many3, sharp};
-ghost use Rattle.levels.specs.Steps.{Grid, Bytes, joined, unit, across, down, pooled, pairwise};
+ghost use Rattle.levels.specs.Steps.{
+  Grid,
+  Bytes,
+  joined,
+  unit,
+  across,
+  down,
+  pooled,
+  pairwise,
+};
 use margin::threshold_of;
 
 fn min8(a: u8, b: u8) -> u8

@@ -1,8 +1,8 @@
--- The f32 rule of the margin is a quotient of whole numbers, at every contrast from 80 and every light: one test that antt computes over all 15,576
--- pairs, a contrast after the other, in eight parts of about as many pairs each.
+-- The f32 rule of the margin is a quotient of whole numbers, at every contrast from 80 and every light: one test that antt computes over
+-- all 15,576 pairs, a contrast after the other, in eight parts of about as many pairs each.
 --
--- In order: a test that holds at every number below a bound; the test of one pair, of a contrast, of a run of contrasts; the eight parts; margin-is.
--- Assumes nothing.
+-- In order: a test that holds at every number below a bound; the test of one pair, of a contrast, of a run of contrasts; the eight parts;
+-- margin-is. Assumes nothing.
 use mathlib.Core.Path.{_≡_, refl, sym, ap, _∙_}
 use mathlib.Core.Logic.{⊎-elim}
 use mathlib.Core.Bool.{Bool, true, _&&_}
@@ -45,10 +45,12 @@ at-contrast : (c l : ℕ) → contrast c ≡ true → c ≤ l → l ≤ 255 → 
 unfolding contrast pair margin
 at-contrast c l test low high =
     let back : c + (l - c) ≡ l = omega arith in
-    rw back at (eqb-true (margin c (c + (l - c))) ((5 * (c + (l - c)) - c) / 5) (holds-at (256 - c) (λ j. pair (share c) c (c + j)) test (l - c) (omega arith)))
+    rw back at (eqb-true (margin c (c + (l - c))) ((5 * (c + (l - c)) - c) / 5)
+    (holds-at (256 - c) (λ j. pair (share c) c (c + j)) test (l - c) (omega arith)))
 
 -- A contrast of this part has its pairs; a later one goes on to the next part.
-at-part : (a n c l : ℕ) → contrasts a n ≡ true → a ≤ c → c ≤ l → l ≤ 255 → (a + n ≤ c → margin c l ≡ (5 * l - c) / 5) → margin c l ≡ (5 * l - c) / 5
+at-part : (a n c l : ℕ) → contrasts a n ≡ true → a ≤ c → c ≤ l → l ≤ 255 → (a + n ≤ c → margin c l ≡ (5 * l - c) / 5)
+    → margin c l ≡ (5 * l - c) / 5
 unfolding contrasts
 at-part a n c l test from low high next = go (decLt c (a + n))
   where

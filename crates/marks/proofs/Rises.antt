@@ -1,6 +1,5 @@
 -- Within one version more agreement is a greater score: between a / n and b / n, a < b ≤ n ≤ 2,048, lie two multiples of 1 / 4,096, which
--- f32
--- has exactly, and rounding keeps the order.
+-- f32 has exactly, and rounding keeps the order.
 --     score-is    a score is the fraction, rounded once
 --     score-rises count to score is strictly rising
 -- Assumes nothing.

@@ -10,8 +10,7 @@ use Rattle.marks.specs.Pose.{MarkMove, followed, MarksMoved, markTo, cor
 use Rattle.marks.specs.Correlate.{score, bestOf, byScores, scored}
 
 -- Demand 3 on marks: for every version, every list of as many marks, every shift by whole quarters, the reversal, and any of these followed
--- by
--- another.
+-- by another.
 pub record PosesMoved : Type 0 where
   -- "the pose so moved": it is one of the eight again
   pub pose : (g : MarkMove) (r : ℕ) → r < 4 → cornerTo g r < 4

@@ -1,6 +1,5 @@
 -- Light or dark at each position, from `classify` of ring.rs: by the split of the finite lumas at the position and the 16 positions on
--- either
--- side. Dark where the luma is not finite, and where its window has fewer than four finite ones. Definitions only. Assumes nothing.
+-- either side. Dark where the luma is not finite, and where its window has fewer than four finite ones. Definitions only. Assumes nothing.
 use mathlib.Core.Path.{_≡_}
 use mathlib.Core.Bool.{Bool, false, cond}
 use mathlib.Core.List.{List, [], _∷_, _++_}

@@ -1,6 +1,5 @@
 -- Answers of the doors on marks, with the refusals of document 01's table in its order: 8, a version outside 1..64; 11, marks or lumas not
--- as
--- many as positions. Definitions only. Assumes nothing.
+-- as many as positions. Definitions only. Assumes nothing.
 use mathlib.Core.Bool.{Bool}
 use mathlib.Core.List.{List, [], _∷_}
 use Prim.Native.Nat.{ℕ, _%_}

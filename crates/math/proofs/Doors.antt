@@ -104,5 +104,11 @@ not-many L n m p h e = h (ap (λ (k : ℕ). k / n) e ∙ native.Mathlib.Nat.mul-
 pub square8 : (n : ℕ) → n ≤ 8 → n * n ≤ 64
 square8 n h = native.Mathlib.Nat.mul-le-mul h h
 
+pub square4 : (n : ℕ) → n ≤ 4 → n * n ≤ 16
+square4 n h = native.Mathlib.Nat.mul-le-mul h h
+
 pub zeros-cells : (n : ℕ) → n ≤ 8 → n * n ≡ length (take (n * n) (zeros 64))
 zeros-cells n h = zeros-length (n * n) 64 (square8 n h)
+
+pub zeros-cells4 : (n : ℕ) → n ≤ 4 → n * n ≡ length (take (n * n) (zeros 16))
+zeros-cells4 n h = zeros-length (n * n) 16 (square4 n h)

@@ -1,6 +1,5 @@
 -- The steps of a partition and of a selection: turn-swap, turn-stop, part-begin, part-end, select-one, select-front, select-back,
--- select-mid.
--- Assumes nothing.
+-- select-mid. Assumes nothing.
 use mathlib.Core.Path.{_≡_, refl, sym, ap, _∙_, subst}
 use mathlib.Core.Logic.{_⊎_, inl, inr}
 use mathlib.Core.List.{List, [], _++_, append-nil}

@@ -72,16 +72,28 @@ at-drop : (s : List Float) (i : ℕ) → i < length s → allUsable (drop i s) �
 unfolding allUsable
 at-drop s i h = ap allUsable (drop-cons s i nan h)
 
-pub all-end : (s : List Float) (i : ℕ) → length s ≤ i → allUsable (drop i s) ≡ true
+and-nil : (b : Bool) → (b && true) ≡ b
+and-nil true = refl
+and-nil false = refl
+
+and-assoc : (a b c : Bool) → ((a && b) && c) ≡ (a && (b && c))
+and-assoc true b c = refl
+and-assoc false b c = refl
+
+-- a walk over the list that joins what it has seen, ok, with what is to come
+pub all-step : (s : List Float) (i : ℕ) (ok f next r : Bool) → i < length s → f ≡ usable (at s i) → next ≡ (ok && f)
+    → (ok && allUsable (drop i s)) ≡ r → (next && allUsable (drop (i + 1) s)) ≡ r
+all-step s i ok f next r h ef en e =
+    ap (λ (b : Bool). b && allUsable (drop (i + 1) s)) en
+    ∙ and-assoc ok f (allUsable (drop (i + 1) s))
+    ∙ ap (λ (b : Bool). ok && b)
+    (ap (λ (j : ℕ). f && allUsable (drop j s)) (native.Mathlib.Numerals.add-one i)
+    ∙ ap (λ (b : Bool). b && allUsable (drop (suc i) s)) ef ∙ sym (at-drop s i h))
+    ∙ e
+
+pub all-end : (s : List Float) (i : ℕ) (ok r : Bool) → length s ≤ i → (ok && allUsable (drop i s)) ≡ r → ok ≡ r
 unfolding allUsable
-all-end s i h = ap allUsable (drop-of-length-le s h)
-
-pub all-no : (s : List Float) (i : ℕ) → i < length s → usable (at s i) ≡ false → allUsable (drop i s) ≡ false
-all-no s i h e = at-drop s i h ∙ ap (λ (b : Bool). b && allUsable (drop (suc i) s)) e
-
-pub all-yes : (s : List Float) (i : ℕ) → i < length s → usable (at s i) ≡ true → allUsable (drop (i + 1) s) ≡ allUsable (drop i s)
-all-yes s i h e = ap (λ (j : ℕ). allUsable (drop j s)) (native.Mathlib.Numerals.add-one i)
-    ∙ sym (at-drop s i h ∙ ap (λ (b : Bool). b && allUsable (drop (suc i) s)) e)
+all-end s i ok r h e = sym (and-nil ok) ∙ sym (ap (λ (t : List Float). ok && allUsable t) (drop-of-length-le s h)) ∙ e
 
 and-left : (a b : Bool) → (a && b) ≡ true → a ≡ true
 and-left true b h = refl

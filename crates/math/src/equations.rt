@@ -40,8 +40,8 @@ pub fn run(a: &mut [f64], b: &mut [f64], n: usize) -> crate::Solution
     }
 }
 
-// The same on copies.
-pub fn run_copy(m: &mut [f64], v: &mut [f64], a: &[f64], b: &[f64], n: usize) -> crate::Solution
+// The same on copies, in lists of as many places.
+fn run_copy(m: &mut [f64], v: &mut [f64], a: &[f64], b: &[f64], n: usize) -> crate::Solution
     requires { ⌜ n ≤ 8 ⌝ }
     requires { ⌜ length (now a) ≡ n * n ⌝ }
     requires { ⌜ length (now b) ≡ n ⌝ }
@@ -52,6 +52,24 @@ pub fn run_copy(m: &mut [f64], v: &mut [f64], a: &[f64], b: &[f64], n: usize) ->
     copy(m, a);
     copy(v, b);
     run(m, v, n)
+}
+
+// The same with room for the copies: less of it for up to four equations.
+pub fn on_copies(a: &[f64], b: &[f64], n: usize) -> crate::Solution
+    requires { ⌜ n ≤ 8 ⌝ }
+    requires { ⌜ length (now a) ≡ n * n ⌝ }
+    requires { ⌜ length (now b) ≡ n ⌝ }
+    ensures { λ r. ⌜ r ≡ solution n (now (a .entry)) (now (b .entry)) ⌝ }
+{
+    let cells = n * n;
+    if n <= 4 {
+        let mut m = [0f64; 16];
+        let mut v = [0f64; 4];
+        return run_copy(&mut m[..cells], &mut v[..n], a, b, n);
+    }
+    let mut m = [0f64; 64];
+    let mut v = [0f64; 8];
+    run_copy(&mut m[..cells], &mut v[..n], a, b, n)
 }
 
 // Row i of the matrix, with a sample's products added; its values start at w.

@@ -19,10 +19,11 @@ pub enum Found {
     Solved,
 }
 
-// The answer, and the solution's numbers; +0 in the places that it does not use.
+// The solution's numbers, +0 in the places that it does not use, and the answer. The numbers stand
+// first so that a copy of the whole moves them by pairs.
 pub struct Solution {
-    pub found: Found,
     pub x: [f64; 8],
+    pub found: Found,
 }
 
 // What a door of medians answers.
@@ -53,16 +54,13 @@ pub fn solve(a: &[f64], b: &[f64], n: usize) -> Solution
     if 8 < n {
         return refused();
     }
-    let cells = n * n;
-    if a.len() != cells {
+    if a.len() != n * n {
         return refused();
     }
     if b.len() != n {
         return refused();
     }
-    let mut m = [0f64; 64];
-    let mut v = [0f64; 8];
-    equations::run_copy(&mut m[..cells], &mut v[..n], a, b, n)
+    equations::on_copies(a, b, n)
 }
 
 // Fits n coefficients to samples: the samples' n values one after the other, a target for each.

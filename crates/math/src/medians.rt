@@ -1,6 +1,6 @@
 // Medians of f32 values by a recursive selection, on lists that can be ordered.
 ghost use mathlib.Core.Path.{_≡_};
-ghost use mathlib.Core.Bool.{true, false, cond};
+ghost use mathlib.Core.Bool.{true, false, cond, _&&_};
 ghost use mathlib.Core.List.{map};
 ghost use Prim.Native.Nat.{_<_, _≤_};
 ghost use lib.ListN.{length};
@@ -159,18 +159,24 @@ fn fit(x: f32) -> bool
     false
 }
 
-// Whether all values are.
+// Whether both are true.
+fn both(a: bool, b: bool) -> bool
+    ensures { λ r. ⌜ r ≡ (a && b) ⌝ }
+{
+    if a { b } else { false }
+}
+
+// Whether all values are finite and not -0. It looks at every value, with no way out between.
 pub fn all_fit(v: &[f32]) -> bool
     ensures { λ r. ⌜ (r ≡ allUsable (now (v .entry))) × (r ≡ true → Numbers (now (v .entry))) ⌝ }
 {
-    let mut i = 0;
+    let mut ok = true;
+    let mut i: usize = 0;
     while i < v.len() {
-        if !fit(v[i]) {
-            return false;
-        }
+        ok = both(ok, fit(v[i]));
         i += 1;
     }
-    true
+    ok
 }
 
 // Copies a list to one of as many places.

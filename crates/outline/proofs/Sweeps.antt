@@ -1,8 +1,6 @@
 -- What the sweeps over a strip of columns keep. The invariant Stepped of a row (stepped-begin, stepped-turn), the thresholds (cuts-turn),
--- the invariant
--- Swept of a strip (swept-begin, swept-turn, part-turn, swept-early, swept-most), and the points found (column-none, column-is,
--- columns-are,
--- columns-none). Assumes nothing.
+-- the invariant Swept of a strip (swept-begin, swept-turn, part-turn, swept-early, swept-most), and the points found (column-none,
+-- column-is, columns-are, columns-none). Assumes nothing.
 use mathlib.Core.Path.{_≡_, refl, sym, ap, _∙_, subst}
 use mathlib.Core.Bool.{Bool, true, false, cond}
 use mathlib.Core.List.{List, [], _∷_, _++_, map, append-nil}
@@ -111,10 +109,10 @@ swept-early p y0 rows x n back k states v all l = record {
   each = λ j h. scan-early (columnLine p y0 rows (x + j) back) k rows (getD states j 0) (all j h) (v .each j h) l;
 }
 
-pub swept-most : (p : ℕ → ℕ → Bool) (y0 rows x n : ℕ) (back : Bool) (states : List ℕ) → Swept p y0 rows x n back rows states
-    → AtMost n rows states
-swept-most p y0 rows x n back states v i l =
-    subst (λ (q : ℕ). q ≤ rows) (sym (v .each i l)) (scan-le (columnLine p y0 rows (x + i) back) 4 (lit≤ tt) rows)
+pub swept-most : (p : ℕ → ℕ → Bool) (y0 rows x n : ℕ) (back : Bool) (k : ℕ) (states : List ℕ) → Swept p y0 rows x n back k states
+    → AtMost n k states
+swept-most p y0 rows x n back k states v i l =
+    subst (λ (q : ℕ). q ≤ k) (sym (v .each i l)) (scan-le (columnLine p y0 rows (x + i) back) 4 (lit≤ tt) k)
 
 abbrev pub part : ℕ → ℕ → List ℕ → List ℕ
 part a e s = take (e - a) (drop a s)
@@ -134,6 +132,15 @@ part-turn want w s levels labels y0 rows x n back k states cuts y new v c ey fit
   where
     long : (a : ℕ) (s : List ℕ) → a + n ≤ length s → length (part a (a + n) s) ≡ n
     long a s fit = simp (length-take, length-drop) (omega arith)
+
+pub part-at-most : (a n : ℕ) (s states : List ℕ) → AtMost n 4096 states → AtMost (length (part a (a + n) s)) 4096 states
+part-at-most a n s states h i l = h i (few (length (part a (a + n) s)) (short (drop a s)) l)
+  where
+    short : (l : List ℕ) → length (take (a + n - a) l) ≤ n
+    short l = simp length-take (omega arith)
+
+    few : (m : ℕ) → m ≤ n → i < m → i < n
+    few m b c = omega arith
 
 pub part-short : (a n : ℕ) (s : List ℕ) → n ≤ 64 → length (part a (a + n) s) ≤ 64
 part-short a n s l = simp (length-take) (omega arith)

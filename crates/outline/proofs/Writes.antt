@@ -1,10 +1,6 @@
 -- Points stored in the lent list. Lists of points: joined-more, joined-add, joined-ext, joined-le; row-two, column-two, found-two, rows-le,
--- columns-le.
--- Numbers: numbers-append, floats-append, length-floats.
--- Stores: wrote-none, wrote-append, wrote-ext, wrote-two, wrote-length, wrote-laid; put-begin, put-more, room-more; strip-begin,
--- strip-more,
--- room-strip; half-is.
--- Assumes nothing.
+-- columns-le. Numbers: numbers-append, floats-append, length-floats. Stores: wrote-none, wrote-append, wrote-ext, wrote-two, wrote-length,
+-- wrote-laid; put-begin, put-more, room-more; strip-begin, strip-more, room-strip; half-is. Assumes nothing.
 use mathlib.Core.Path.{_≡_, refl, sym, ap, _∙_, subst}
 use mathlib.Core.Bool.{Bool, true, false, cond}
 use mathlib.Core.List.{List, [], _∷_, _++_, map, append-assoc, append-nil}

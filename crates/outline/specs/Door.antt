@@ -1,6 +1,5 @@
 -- The outline door, as document 01 has it under "Doors and their checks, in order": refusals in the table's order, its answer, and the lent
--- list
--- afterwards. Definitions only. Assumes nothing.
+-- list afterwards. Definitions only. Assumes nothing.
 use mathlib.Core.Bool.{Bool, _&&_}
 use mathlib.Core.List.{List}
 use Prim.Native.Nat.{ℕ, zero, suc, _+_, _-_, _*_}

@@ -38,8 +38,7 @@ unfoldable pub skipOf : (ℕ → Bool) → ℕ → ℕ
 skipOf t k = cond (t (k + 3)) (cond (t (k + 2)) (cond (t (k + 1)) (cond (t k) 0 1) 2) 3) 4
 
 -- ---- columns: the state of a scan is one number. Below k, how many members stand just before place i; from k on, the first run was found,
--- and it
--- starts at state - k.
+-- and it starts at state - k.
 unfoldable pub scanStep : ℕ → ℕ → Bool → ℕ → ℕ
 scanStep k s b i = cond (leb k s) s (cond b (cond (eqb (s + 1) k) (i + 1) (s + 1)) 0)
 

@@ -5,28 +5,30 @@ use crate::cells::cut_again;
 use crate::cells::cut_at;
 use crate::cells::place;
 ghost use mathlib.Core.Path.{_≡_};
-ghost use mathlib.Core.Bool.{true, false};
+ghost use mathlib.Core.Bool.{true, false, cond};
 ghost use Prim.Native.Nat.{ℕ, _+_, _*_, _/_, _<_, _≤_};
 ghost use lib.Dec.{ltb};
 ghost use lib.ListN.{getD, length};
 ghost use Rattle.boundary.specs.Boundary.{memberAt};
-ghost use Rattle.outline.specs.Scan.{scanStep, Grids, CutRow, Stepped, Swept};
+ghost use Rattle.outline.specs.Scan.{scanStep, Grids, CutRow, Stepped, Swept, AtMost};
 
-// One pixel p more of a column, with the threshold t.
+// a, or b where c is false.
+fn pick(c: bool, a: u16, b: u16) -> u16
+    ensures { λ r. ⌜ r ≡ cond c a b ⌝ }
+{
+    if c { a } else { b }
+}
+
+// One pixel p more of a column, with the threshold t. Without branches, so that columns go side by
+// side.
 fn next_state(state: u16, p: u8, t: u8, k: u16) -> u16
-    requires { ⌜ k < 4096 ⌝ }
+    requires { ⌜ (k < 4096) × (state ≤ 4096) ⌝ }
     ensures { λ r. ⌜ r ≡ scanStep 4 state (ltb p t) k ⌝ }
 {
-    if 4 <= state {
-        return state;
-    }
-    if p < t {
-        if state == 3 {
-            return k + 1;
-        }
-        return state + 1;
-    }
-    0
+    let more = state + 1;
+    let grown = pick(more == 4, k + 1, more);
+    let kept = pick(p < t, grown, 0);
+    pick(4 <= state, state, kept)
 }
 
 // The thresholds of the n pixels from x on in row y.
@@ -87,6 +89,7 @@ fn refill(
 // One row more for each column of a strip.
 fn step_row(row: &[u8], cuts: &[u8; 64], state: &mut [u16; 64], k: u16)
     requires { ⌜ (length (now row) ≤ 64) × (length (now state) ≡ 64) × (k < 4096) ⌝ }
+    requires { ⌜ AtMost (length (now row)) 4096 (now state) ⌝ }
     ensures { λ _. ⌜
         Stepped (now (row .entry)) (now (cuts .entry)) (now (state .entry)) k
         (length (now (row .entry))) (now (state .exit)) ⌝ }

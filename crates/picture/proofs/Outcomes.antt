@@ -1,4 +1,5 @@
--- The outcome of the door put together: checks in order, the level grid for the marks, marks for the labels, labels for the regions. Assumes nothing.
+-- The outcome of the door put together: checks in order, the level grid for the marks, marks for the labels, labels for the regions.
+-- Assumes nothing.
 use mathlib.Core.Bool.{Bool, false, true}
 use mathlib.Core.List.{List, _++_}
 use mathlib.Core.Path.{_∙_, _≡_, ap, refl, sym}
@@ -46,7 +47,8 @@ levelled-of {s} {grid} {w} {h} old picture is room = record {
 }
 
 -- labels by cell, and by column and row
-labels-drawn : (p : Plane) (w h : ℕ) (old : List ℕ) → written (cellsOf w h) (cellLabel p w h) old ≡ drawn (cells8 w) (cells8 h) (labelAt p w h) old
+labels-drawn : (p : Plane) (w h : ℕ) (old : List ℕ)
+    → written (cellsOf w h) (cellLabel p w h) old ≡ drawn (cells8 w) (cells8 h) (labelAt p w h) old
 unfolding labelAt
 labels-drawn p w h old =
     rw (mul-comm (cells8 h) (cells8 w))
@@ -54,14 +56,16 @@ labels-drawn p w h old =
     (λ k b. ap (cellLabel p w h) (sym (cell-of (cells8 w) k))))
 
 -- marks, then labels, over lists that were used before
-pub mapped-of : (s : List ℕ) (w h cw ch : ℕ) (labels stack worked marked worked-stack labels′ stack′ : List ℕ) {r : Next} → cw ≡ cells8 w → ch ≡ cells8 h
+pub mapped-of : (s : List ℕ) (w h cw ch : ℕ) (labels stack worked marked worked-stack labels′ stack′ : List ℕ) {r : Next} → cw ≡ cells8 w
+    → ch ≡ cells8 h
     → UntouchedPast (cells w * cells h) labels worked → UntouchedPast (cells w * cells h) stack worked-stack
     → cells w * cells h ≤ cellsOf w h
     → length worked ≡ length labels → length worked-stack ≡ length stack
     → marked ≡ drawn (cells8 w) (cells8 h) (markAt (plane w s) w h) worked → length marked ≡ length worked
     → Answers cw (ch * cw) marked worked-stack labels′ stack′ r → Mapped s w h labels stack labels′ stack′ r
 unfolding cellLabel groupsOf
-mapped-of s w h cw ch labels stack worked marked worked-stack labels′ stack′ ew eh past past-stack more same same-stack is same-marked answers =
+mapped-of s w h cw ch labels stack worked marked worked-stack labels′ stack′ ew eh past past-stack more same same-stack is same-marked
+    answers =
     go (rw (ew, eh) at answers)
   where
     p : Plane
@@ -124,7 +128,8 @@ module _ (s : List ℕ) (w h : ℕ) (labels : List ℕ) (v : ℕ) (by : Labelled
   many-most = omega (arith, by .all, count-most (first? (inkCell (plane w s) w h) (near (cells8 w)) (cellsOf w h)) (cellsOf w h))
 
 -- the labels that the list holds once they are drawn
-pub labelled-by : (s old : List ℕ) (w h : ℕ) {labels : List ℕ} {v : ℕ} → labels ≡ drawn (cells8 w) (cells8 h) (labelAt (plane w s) w h) old → v ≡ groupsOf (plane w s) w h
+pub labelled-by : (s old : List ℕ) (w h : ℕ) {labels : List ℕ} {v : ℕ} → labels ≡ drawn (cells8 w) (cells8 h) (labelAt (plane w s) w h) old
+    → v ≡ groupsOf (plane w s) w h
     → LabelledBy s w h labels v
 unfolding labelAt
 labelled-by s old w h is all = record {
@@ -155,7 +160,8 @@ answer-refused (suc n) k some = refl
 
 -- ---- what labelling leaves
 pub mapped-at : {s labels stack labels′ stack′ : List ℕ} {w h v : ℕ} {r : Next} → Mapped s w h labels stack labels′ stack′ r → r ≡ At v
-    → (labels′ ≡ drawn (cells8 w) (cells8 h) (labelAt (plane w s) w h) labels) × (v ≡ groupsOf (plane w s) w h) × UntouchedPast (cellsOf w h) stack stack′
+    → (labels′ ≡ drawn (cells8 w) (cells8 h) (labelAt (plane w s) w h) labels) × (v ≡ groupsOf (plane w s) w h)
+    × UntouchedPast (cellsOf w h) stack stack′
 mapped-at {v = v} (mapped {v = u} a b c) e = let z : u ≡ v = cc in (a, sym z ∙ b, c)
 mapped-at (full a b c) e = absurd (let z : _≡_ {A = ℕ} 0 1 = cc in omega arith)
 
@@ -166,11 +172,14 @@ mapped-full (full a b c) e = (a, b, c)
 
 -- there are no fewer region cells than level cells
 pub level-cells-few : (w h : ℕ) → cells w * cells h ≤ cellsOf w h
-level-cells-few w h = rw (mul-comm (cells8 h) (cells8 w)) (mul-le-mul {n₁ = cells w} {m₁ = cells h} {n₂ = cells8 w} {m₂ = cells8 h} (omega arith) (omega arith))
+level-cells-few w h =
+    rw (mul-comm (cells8 h) (cells8 w))
+    (mul-le-mul {n₁ = cells w} {m₁ = cells h} {n₂ = cells8 w} {m₂ = cells8 h} (omega arith) (omega arith))
 
 -- the places past n, where fewer are lent
 pub past-front : (n m : ℕ) (l part : List ℕ) → m ≤ n → length part ≡ m → UntouchedPast n l (part ++ drop m l)
 past-front n m l part few same =
     let e : n ≡ length part + (n - m) = omega arith in
     let f : m + (n - m) ≡ n = omega arith in
-    ap (λ (k : ℕ). drop k (part ++ drop m l)) e ∙ drop-append-add part (drop m l) (n - m) ∙ drop-drop (n - m) m l ∙ ap (λ (k : ℕ). drop k l) f
+    ap (λ (k : ℕ). drop k (part ++ drop m l)) e ∙ drop-append-add part (drop m l) (n - m) ∙ drop-drop (n - m) m l
+    ∙ ap (λ (k : ℕ). drop k l) f

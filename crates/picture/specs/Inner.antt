@@ -1,4 +1,5 @@
--- What the picture door's inner functions keep: the checks as facts, and the labels of a picture in a lent list. Definitions only. Assumes nothing.
+-- What the picture door's inner functions keep: the checks as facts, and the labels of a picture in a lent list. Definitions only. Assumes
+-- nothing.
 use mathlib.Core.List.{List}
 use mathlib.Core.Path.{_≡_}
 use Prim.Native.Nat.{ℕ, _*_, _≤_, _<_}
@@ -26,8 +27,8 @@ pub record LabelledBy (s : List ℕ) (w h : ℕ) (labels : List ℕ) (v : ℕ) :
   pub held : (c : ℕ) → c < cellsOf w h → getD labels c 0 ≡ cellLabel (plane w s) w h c
   pub all : v ≡ groupsOf (plane w s) w h
 
--- The lists after labelling: the labels and their number; or the stack was full, which happens only where it has fewer places than there are region
--- cells, and both lists are all zero.
+-- The lists after labelling: the labels and their number; or the stack was full, which happens only where it has fewer places than there
+-- are region cells, and both lists are all zero.
 pub data Mapped (s : List ℕ) (w h : ℕ) (labels stack labels′ stack′ : List ℕ) : Next → Type 0 where
   mapped : {v : ℕ} → labels′ ≡ drawn (cells8 w) (cells8 h) (labelAt (plane w s) w h) labels → v ≡ groupsOf (plane w s) w h
       → UntouchedPast (cellsOf w h) stack stack′ → Mapped s w h labels stack labels′ stack′ (At v)

@@ -6,7 +6,15 @@ ghost use Rattle.laws.specs.Plane.{plane, drawn};
 ghost use Rattle.levels.specs.Level.{cells, level};
 ghost use Rattle.levels.specs.Steps.{Picture, Rooms};
 ghost use Rattle.regions.specs.Cells.{cells8, cellsOf};
-ghost use Rattle.regions.specs.Door.{checkGrids, keptRegions, refusedBy, pictureAnswer, levelsAfter, labelsAfter, StackAfter};
+ghost use Rattle.regions.specs.Door.{
+  checkGrids,
+  keptRegions,
+  refusedBy,
+  pictureAnswer,
+  levelsAfter,
+  labelsAfter,
+  StackAfter,
+};
 ghost use Rattle.laws.specs.Lent.{UntouchedPast};
 ghost use Rattle.picture.specs.Inner.{Passed, Mapped, LabelledBy};
 use labels::cells::mark_cells;
@@ -113,8 +121,9 @@ fn refusal(n: u32) -> PictureAnswer
 }
 
 // The picture door. It lends a grid of one byte a level cell, and two lists of one number a region
-// cell: labels and the stack. Refusals: 1, a side outside 1..4,096; 2, bytes not width times height;
-// 3, a lent list too short; 4, a push finds the stack full, which does not happen where 3 is passed.
+// cell: labels and the stack. Refusals: 1, a side outside 1..4,096; 2, bytes not width times
+// height; 3, a lent list too short; 4, a push finds the stack full, which does not happen where 3
+// is passed.
 pub fn picture(
     s: &[u8],
     w: usize,

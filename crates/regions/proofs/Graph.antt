@@ -41,7 +41,8 @@ module _ (ink : ℕ → Bool) (near : ℕ → ℕ → Bool) where
   unfolding reach
   reach-near a b p q r = both (ink a) (ink b && near a b) p (both (ink b) (near a b) q r)
 
-  reach-cases : (k a b : ℕ) → reach ink near (suc k) a b ≡ true → (reach ink near k a b ≡ true) ⊎ ((reach ink near k a k ≡ true) × (reach ink near k k b ≡ true))
+  reach-cases : (k a b : ℕ) → reach ink near (suc k) a b ≡ true
+      → (reach ink near k a b ≡ true) ⊎ ((reach ink near k a k ≡ true) × (reach ink near k k b ≡ true))
   unfolding reach
   reach-cases k a b p =
       ⊎-elim
@@ -51,7 +52,8 @@ module _ (ink : ℕ → Bool) (near : ℕ → ℕ → Bool) where
 
   by-last : (k a b : ℕ) → reach ink near k a k ≡ true → reach ink near k k b ≡ true → reach ink near (suc k) a b ≡ true
   unfolding reach
-  by-last k a b p q = or-right (reach ink near k a b) (reach ink near k a k && reach ink near k k b) (both (reach ink near k a k) (reach ink near k k b) p q)
+  by-last k a b p q = or-right (reach ink near k a b) (reach ink near k a k && reach ink near k k b)
+      (both (reach ink near k a k) (reach ink near k k b) p q)
 
   more : (k a b : ℕ) → reach ink near k a b ≡ true → reach ink near (suc k) a b ≡ true
   unfolding reach
@@ -61,7 +63,8 @@ module _ (ink : ℕ → Bool) (near : ℕ → ℕ → Bool) where
   reach-linked zero a b p =
       let (i, j, h) = reach-start a b p in
       step (here i) h j
-  reach-linked (suc k) a b p = ⊎-elim (reach-linked k a b) (λ q. linked-trans (reach-linked k a k (q .0)) (reach-linked k k b (q .1))) (reach-cases k a b p)
+  reach-linked (suc k) a b p =
+      ⊎-elim (reach-linked k a b) (λ q. linked-trans (reach-linked k a k (q .0)) (reach-linked k k b (q .1))) (reach-cases k a b p)
 
   abbrev Through : ℕ → Type 0
   Through k = (m : ℕ) → m < k → (a b : ℕ) → reach ink near k a m ≡ true → reach ink near k m b ≡ true → reach ink near k a b ≡ true
@@ -73,7 +76,8 @@ module _ (ink : ℕ → Bool) (near : ℕ → ℕ → Bool) where
   reach-from : (k b : ℕ) → reach ink near (suc k) k b ≡ true → reach ink near k k b ≡ true
   reach-from k b p = ⊎-elim (λ q. q) (λ q. q .1) (reach-cases k k b p)
 
-  through-below : (k : ℕ) → Through k → (m : ℕ) → m < k → (a b : ℕ) → reach ink near (suc k) a m ≡ true → reach ink near (suc k) m b ≡ true → reach ink near (suc k) a b ≡ true
+  through-below : (k : ℕ) → Through k → (m : ℕ) → m < k → (a b : ℕ) → reach ink near (suc k) a m ≡ true → reach ink near (suc k) m b ≡ true
+      → reach ink near (suc k) a b ≡ true
   through-below k t m h a b p q =
       ⊎-elim
       (λ p₁. ⊎-elim (λ q₁. more k a b (t m h a b p₁ q₁)) (λ q₂. by-last k a b (t m h a k p₁ (q₂ .0)) (q₂ .1)) (reach-cases k m b q))
@@ -124,7 +128,8 @@ module _ (ink : ℕ → Bool) (near : ℕ → ℕ → Bool) where
 
     pub leader-same : {a b : ℕ} → Linked ink near a b → leader ink near n a ≡ leader ink near n b
     leader-same {a} {b} r =
-        let p : leader ink near n a ≤ leader ink near n b = leader-before _ a (linked-trans (leader-linked b (linked-right r)) (linked-sym r)) in
+        let p : leader ink near n a ≤ leader ink near n b =
+        leader-before _ a (linked-trans (leader-linked b (linked-right r)) (linked-sym r)) in
         let q : leader ink near n b ≤ leader ink near n a = leader-before _ b (linked-trans (leader-linked a (linked-left r)) r) in
         omega arith
 
@@ -158,19 +163,30 @@ module _ (ink : ℕ → Bool) (near : ℕ → ℕ → Bool) where
     label-ink c i = rw i
 
     pub label-same : {a b : ℕ} → Linked ink near a b → label ink near n a ≡ label ink near n b
-    label-same {a} {b} r = label-ink a (linked-left r) ∙ (ap (λ (d : ℕ). suc (count (first? ink near n) d)) (leader-same r) ∙ sym (label-ink b (linked-right r)))
+    label-same {a} {b} r =
+        label-ink a (linked-left r)
+        ∙ (ap (λ (d : ℕ). suc (count (first? ink near n) d)) (leader-same r) ∙ sym (label-ink b (linked-right r)))
 
     -- the first cell of a group is before that of another: its label is less
-    label-less : (a b : ℕ) → ink a ≡ true → ink b ≡ true → leader ink near n a < leader ink near n b → label ink near n a < label ink near n b
-    label-less a b i j h = omega (arith, label-ink a i, label-ink b j, count-step (first? ink near n) (leader ink near n a) (leader ink near n b) h (first-leader a i))
+    label-less : (a b : ℕ) → ink a ≡ true → ink b ≡ true → leader ink near n a < leader ink near n b
+        → label ink near n a < label ink near n b
+    label-less a b i j h =
+        omega (
+          arith,
+          label-ink a i,
+          label-ink b j,
+          count-step (first? ink near n) (leader ink near n a) (leader ink near n b) h (first-leader a i),
+        )
 
     pub label-linked : (a b : ℕ) → ink a ≡ true → ink b ≡ true → label ink near n a ≡ label ink near n b → Linked ink near a b
-    label-linked a b i j e = linked-trans (linked-sym (leader-linked a i)) (subst (λ (d : ℕ). Linked ink near d b) (sym same) (leader-linked b j))
+    label-linked a b i j e =
+        linked-trans (linked-sym (leader-linked a i)) (subst (λ (d : ℕ). Linked ink near d b) (sym same) (leader-linked b j))
       where
         same : leader ink near n a ≡ leader ink near n b
         same = go (decLt (leader ink near n a) (leader ink near n b)) (decLt (leader ink near n b) (leader ink near n a))
           where
-            go : Dec (leader ink near n a < leader ink near n b) → Dec (leader ink near n b < leader ink near n a) → leader ink near n a ≡ leader ink near n b
+            go : Dec (leader ink near n a < leader ink near n b) → Dec (leader ink near n b < leader ink near n a)
+                → leader ink near n a ≡ leader ink near n b
             go (yes h) d = absurd (omega (arith, label-less a b i j h))
             go (no h) (yes k) = absurd (omega (arith, label-less b a j i k))
             go (no h) (no k) = omega arith
@@ -193,4 +209,5 @@ module _ (ink : ℕ → Bool) (near : ℕ → ℕ → Bool) where
       where
         go : (ink c ≡ true) ⊎ (ink c ≡ false) → l c ≡ label ink near n c
         go (inr i) = p .none c i ∙ sym (label-none c i)
-        go (inl i) = sym (p .shared (leader ink near n c) c (leader-linked c i)) ∙ (p .counted (leader ink near n c) (first-leader c i) ∙ sym (label-ink c i))
+        go (inl i) = sym (p .shared (leader ink near n c) c (leader-linked c i))
+            ∙ (p .counted (leader ink near n c) (first-leader c i) ∙ sym (label-ink c i))

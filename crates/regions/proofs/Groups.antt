@@ -18,7 +18,8 @@ pub linked-map : (ink : ℕ → Bool) (near : ℕ → ℕ → Bool) (ink′ : �
     → ((a b : ℕ) → ink a ≡ true → ink b ≡ true → near a b ≡ true → near′ (f a) (f b) ≡ true)
     → {a b : ℕ} → Linked ink near a b → Linked ink′ near′ (f a) (f b)
 linked-map ink near ink′ near′ f i n (here {a = a} p) = here (i a p)
-linked-map ink near ink′ near′ f i n (step {b = b} {c = c} r h p) = step (linked-map ink near ink′ near′ f i n r) (n b c (linked-right ink near r) p h) (i c p)
+linked-map ink near ink′ near′ f i n (step {b = b} {c = c} r h p) =
+    step (linked-map ink near ink′ near′ f i n r) (n b c (linked-right ink near r) p h) (i c p)
 
 -- A move of one grid onto another: a map with its way back, both of which keep ink and nearness.
 pub record Carry (ink : ℕ → Bool) (near : ℕ → ℕ → Bool) (ink′ : ℕ → Bool) (near′ : ℕ → ℕ → Bool) (f : ℕ → ℕ) : Type 0 where
@@ -31,7 +32,8 @@ pub record Carry (ink : ℕ → Bool) (near : ℕ → ℕ → Bool) (ink′ : �
   pub near-back : (a b : ℕ) → ink′ a ≡ true → ink′ b ≡ true → near′ a b ≡ true → near (back a) (back b) ≡ true
 
 -- The way back is a move too.
-unfoldable pub undo : {ink : ℕ → Bool} {near : ℕ → ℕ → Bool} {ink′ : ℕ → Bool} {near′ : ℕ → ℕ → Bool} {f : ℕ → ℕ} → (m : Carry ink near ink′ near′ f) → Carry ink′ near′ ink near (m .back)
+unfoldable pub undo : {ink : ℕ → Bool} {near : ℕ → ℕ → Bool} {ink′ : ℕ → Bool} {near′ : ℕ → ℕ → Bool} {f : ℕ → ℕ}
+    → (m : Carry ink near ink′ near′ f) → Carry ink′ near′ ink near (m .back)
 undo {f = f} m = record {
   back = f;
   again = m .there;
@@ -43,7 +45,8 @@ undo {f = f} m = record {
 }
 
 -- The groups are the moved groups.
-pub moved-groups : {ink : ℕ → Bool} {near : ℕ → ℕ → Bool} {ink′ : ℕ → Bool} {near′ : ℕ → ℕ → Bool} {f : ℕ → ℕ} (n n′ : ℕ) → Grid ink near n → Grid ink′ near′ n′ → Carry ink near ink′ near′ f
+pub moved-groups : {ink : ℕ → Bool} {near : ℕ → ℕ → Bool} {ink′ : ℕ → Bool} {near′ : ℕ → ℕ → Bool} {f : ℕ → ℕ} (n n′ : ℕ) → Grid ink near n
+    → Grid ink′ near′ n′ → Carry ink near ink′ near′ f
     → (a b : ℕ) → ink a ≡ true → ink b ≡ true
     → (label ink near n a ≡ label ink near n b) ↔ (label ink′ near′ n′ (f a) ≡ label ink′ near′ n′ (f b))
 moved-groups {ink} {near} {ink′} {near′} {f} n n′ g g′ m a b i j = (to, from)
@@ -53,7 +56,8 @@ moved-groups {ink} {near} {ink′} {near′} {f} n n′ g g′ m a b i j = (to, 
 
     from : label ink′ near′ n′ (f a) ≡ label ink′ near′ n′ (f b) → label ink near n a ≡ label ink near n b
     from e =
-        let r = linked-map ink′ near′ ink near (m .back) (m .ink-back) (m .near-back) (label-linked ink′ near′ n′ g′ (f a) (f b) (m .ink-to a i) (m .ink-to b j) e) in
+        let r = linked-map ink′ near′ ink near (m .back) (m .ink-back) (m .near-back)
+        (label-linked ink′ near′ n′ g′ (f a) (f b) (m .ink-to a i) (m .ink-to b j) e) in
         label-same ink near n g (subst₂ (λ (x y : ℕ). Linked ink near x y) (m .again a i) (m .again b j) r)
 
 -- ---- the quarter turn and the mirror

@@ -1,4 +1,5 @@
--- The kept groups where groups are numbered anew: as many, and the i-th is the i-th's new number, where no two wanted sizes are equal. Assumes nothing.
+-- The kept groups where groups are numbered anew: as many, and the i-th is the i-th's new number, where no two wanted sizes are equal.
+-- Assumes nothing.
 use mathlib.Core.Path.{_≡_, refl, sym, _∙_, ap}
 use mathlib.Core.Logic.{_⊎_, inl, inr, ⊎-elim}
 use mathlib.Core.Bool.{Bool, true, false, _&&_, _||_, not}
@@ -16,7 +17,10 @@ use Rattle.regions.proofs.Select.{Order, nth-is, place-one, place-under
 -- ---- the order
 pub ahead-cases : (x a y b : ℕ) → aheadBy x a y b ≡ true → (y < x) ⊎ ((x ≡ y) × (a < b))
 unfolding aheadBy
-ahead-cases x a y b t = ⊎-elim (λ p. inl (ltb-true y x p)) (λ p. inr (eqb-true x y (and-left (eqb x y) (ltb a b) p), ltb-true a b (and-right (eqb x y) (ltb a b) p))) (either (ltb y x) (eqb x y && ltb a b) t)
+ahead-cases x a y b t =
+    ⊎-elim (λ p. inl (ltb-true y x p))
+    (λ p. inr (eqb-true x y (and-left (eqb x y) (ltb a b) p), ltb-true a b (and-right (eqb x y) (ltb a b) p)))
+    (either (ltb y x) (eqb x y && ltb a b) t)
 
 pub ahead-more : (x a y b : ℕ) → y < x → aheadBy x a y b ≡ true
 unfolding aheadBy
@@ -29,7 +33,8 @@ ahead-same x a y b e h = or-right (ltb y x) (eqb x y && ltb a b) (both (eqb x y)
 pub order : (s : ℕ → ℕ) → Order (ahead s)
 unfolding ahead
 order s = record {
-  irr = λ a. ⊎-elim (λ t. absurd (⊎-elim (λ p. omega arith) (λ p. omega (arith, p .1)) (ahead-cases (s a) a (s a) a t))) (λ t. t) (which (aheadBy (s a) a (s a) a));
+  irr = λ a. ⊎-elim (λ t. absurd (⊎-elim (λ p. omega arith) (λ p. omega (arith, p .1)) (ahead-cases (s a) a (s a) a t))) (λ t. t)
+      (which (aheadBy (s a) a (s a) a));
   trans = λ a b c p q. step (s a) a (s b) b (s c) c (ahead-cases _ _ _ _ p) (ahead-cases _ _ _ _ q);
   total = λ a b p q. same (s a) a (s b) b p q;
 }
@@ -57,7 +62,8 @@ all-count zero = refl
 all-count (suc k) = ap suc (all-count k)
 
 but-one : (i k : ℕ) → i < k → k ≡ suc (count (λ j. not (eqb j i)) k)
-but-one i k l = sym (all-count k) ∙ count-add (λ j. not (eqb j i)) (λ j. true) i k l (ap not (eq-eqb i i refl)) refl (λ c d n. ap not (ne-eqb c i n))
+but-one i k l = sym (all-count k)
+    ∙ count-add (λ j. not (eqb j i)) (λ j. true) i k l (ap not (eq-eqb i i refl)) refl (λ c d n. ap not (ne-eqb c i n))
 
 module _ (s : ℕ → ℕ) (m : ℕ) where
   -- what the definition gives where it gives one
@@ -77,7 +83,12 @@ module _ (s : ℕ → ℕ) (m : ℕ) where
       go (inl t) = yes′ (decLt (least (test i) m) m)
         where
           yes′ : Dec (least (test i) m < m) → At i (least (test i) m)
-          yes′ (yes b) = record { below = b; wanted = and-left (want s (least (test i) m)) _ t; placed = eqb-true _ _ (and-right (want s (least (test i) m)) (eqb (place (want s) (ahead s) m (least (test i) m)) i) t) }
+          yes′ (yes b) = record {
+            below = b;
+            wanted = and-left (want s (least (test i) m)) _ t;
+            placed = eqb-true _ _
+                (and-right (want s (least (test i) m)) (eqb (place (want s) (ahead s) m (least (test i) m)) i) t);
+          }
           yes′ (no b) = absurd (none (λ a h w. least-before (test i) m a (omega (arith, h))))
             where
               none : ((a : ℕ) → a < m → want s a ≡ true → test i a ≡ false) → ⊥
@@ -85,7 +96,12 @@ module _ (s : ℕ → ℕ) (m : ℕ) where
                 arith,
                 but-one i (count (want s) m) l,
                 count-into (want s) m (λ j. not (eqb j i)) (count (want s) m) (place (want s) (ahead s) m)
-                    (λ a h w. (place-under (want s) (ahead s) m (order s) a h w, ap not (ne-eqb (place (want s) (ahead s) m a) i (λ e. clash (both (want s a) (eqb (place (want s) (ahead s) m a) i) w (eq-eqb (place (want s) (ahead s) m a) i e)) (f a h w)))))
+                    (λ a h w. (
+                      place-under (want s) (ahead s) m (order s) a h w,
+                      ap not (ne-eqb (place (want s) (ahead s) m a) i
+                          (λ e. clash (both (want s a) (eqb (place (want s) (ahead s) m a) i) w (eq-eqb (place (want s) (ahead s) m a) i e))
+                          (f a h w))),
+                    ))
                     (λ a b h k w u e. place-one (want s) (ahead s) m (order s) a b h k w u e),
               )
       go (inr t) = absurd (none (λ a h w. least-before (test i) m a (omega (arith, h, least-end (test i) m t))))
@@ -95,7 +111,12 @@ module _ (s : ℕ → ℕ) (m : ℕ) where
             arith,
             but-one i (count (want s) m) l,
             count-into (want s) m (λ j. not (eqb j i)) (count (want s) m) (place (want s) (ahead s) m)
-                (λ a h w. (place-under (want s) (ahead s) m (order s) a h w, ap not (ne-eqb (place (want s) (ahead s) m a) i (λ e. clash (both (want s a) (eqb (place (want s) (ahead s) m a) i) w (eq-eqb (place (want s) (ahead s) m a) i e)) (f a h w)))))
+                (λ a h w. (
+                  place-under (want s) (ahead s) m (order s) a h w,
+                  ap not (ne-eqb (place (want s) (ahead s) m a) i
+                      (λ e. clash (both (want s a) (eqb (place (want s) (ahead s) m a) i) w (eq-eqb (place (want s) (ahead s) m a) i e))
+                      (f a h w))),
+                ))
                 (λ a b h k w u e. place-one (want s) (ahead s) m (order s) a b h k w u e),
           )
 
@@ -171,7 +192,8 @@ module _ {s : ℕ → ℕ} {m : ℕ} {s′ : ℕ → ℕ} {m′ : ℕ} {r r′ :
       let w : want s′ (r a) ≡ true = want-to q a (k .below) ∙ k .wanted in
       let x = place-le q u a (k .below) (k .wanted) in
       let y = place-le (anew-back q) (untied-to q u) (r a) (q .to a (k .below)) w in
-      let z : place (want s) (ahead s) m (r′ (r a)) ≡ place (want s) (ahead s) m a = ap (place (want s) (ahead s) m) (q .again a (k .below)) in
+      let z : place (want s) (ahead s) m (r′ (r a)) ≡ place (want s) (ahead s) m a =
+      ap (place (want s) (ahead s) m) (q .again a (k .below)) in
       nth-is (want s′) (ahead s′) m′ (order s′) (r a) i (q .to a (k .below)) w (omega (arith, k .placed, x, y, z))
 
 -- ---- sizes that agree below m, as a list of counters has them
@@ -191,6 +213,11 @@ module _ (s s′ : ℕ → ℕ) (m : ℕ) (same : (a : ℕ) → a < m → s a �
   pub kept-at-ext : (i : ℕ) → keptAt s m i ≡ keptAt s′ m i
   unfolding keptAt nth place want ahead
   kept-at-ext i =
-      least-ext (λ a. leb 16 (s a) && eqb (count (λ b. leb 16 (s b) && aheadBy (s b) b (s a) a) m) i) (λ a. leb 16 (s′ a) && eqb (count (λ b. leb 16 (s′ b) && aheadBy (s′ b) b (s′ a) a) m) i) m
+      least-ext (λ a. leb 16 (s a) && eqb (count (λ b. leb 16 (s b) && aheadBy (s b) b (s a) a) m) i)
+      (λ a. leb 16 (s′ a) && eqb (count (λ b. leb 16 (s′ b) && aheadBy (s′ b) b (s′ a) a) m) i) m
       (λ a l.
-      rw (same a l, count-ext (λ b. leb 16 (s′ b) && aheadBy (s′ b) b (s′ a) a) (λ b. leb 16 (s b) && aheadBy (s b) b (s′ a) a) m (λ b k. rw (same b k))))
+      rw (
+        same a l,
+        count-ext (λ b. leb 16 (s′ b) && aheadBy (s′ b) b (s′ a) a) (λ b. leb 16 (s b) && aheadBy (s b) b (s′ a) a) m
+            (λ b k. rw (same b k)),
+      ))

@@ -38,7 +38,8 @@ none = record { label = 0; cells = 0; x0 = 0; y0 = 0; x1 = 0; y1 = 0 }
 pub listing-begin : (labels : List ℕ) (m cw ch w h : ℕ)
     → Listing labels m cw ch w h 0
     (record { label = 0; cells = 0; x0 = 0; y0 = 0; x1 = 0; y1 = 0 } ∷ record { label = 0; cells = 0; x0 = 0; y0 = 0; x1 = 0; y1 = 0 }
-    ∷ record { label = 0; cells = 0; x0 = 0; y0 = 0; x1 = 0; y1 = 0 } ∷ record { label = 0; cells = 0; x0 = 0; y0 = 0; x1 = 0; y1 = 0 } ∷ [])
+    ∷ record { label = 0; cells = 0; x0 = 0; y0 = 0; x1 = 0; y1 = 0 } ∷ record { label = 0; cells = 0; x0 = 0; y0 = 0; x1 = 0; y1 = 0 } ∷
+    [])
 unfolding noRegion
 listing-begin labels m cw ch w h = record { many = refl; done = λ j b. absurd (omega arith); rest = λ j b. at j }
   where
@@ -63,16 +64,19 @@ listing-turn {labels} {m} {cw} {ch} {w} {h} {i} {list} {r} q few is = record {
 
 -- a list of four by its places
 four : (l : List Region) → length l ≡ 4 → l ≡ getD l 0 noRegion ∷ getD l 1 noRegion ∷ getD l 2 noRegion ∷ getD l 3 noRegion ∷ []
-four l e = ext-getD noRegion l (getD l 0 noRegion ∷ getD l 1 noRegion ∷ getD l 2 noRegion ∷ getD l 3 noRegion ∷ []) e (λ i b. at i (omega arith))
+four l e = ext-getD noRegion l (getD l 0 noRegion ∷ getD l 1 noRegion ∷ getD l 2 noRegion ∷ getD l 3 noRegion ∷ []) e
+    (λ i b. at i (omega arith))
   where
-    at : (i : ℕ) → i < 4 → getD l i noRegion ≡ getD (getD l 0 noRegion ∷ getD l 1 noRegion ∷ getD l 2 noRegion ∷ getD l 3 noRegion ∷ []) i noRegion
+    at : (i : ℕ) → i < 4
+        → getD l i noRegion ≡ getD (getD l 0 noRegion ∷ getD l 1 noRegion ∷ getD l 2 noRegion ∷ getD l 3 noRegion ∷ []) i noRegion
     at zero b = refl
     at (suc zero) b = refl
     at (suc (suc zero)) b = refl
     at (suc (suc (suc zero))) b = refl
     at (suc (suc (suc (suc i)))) b = absurd (omega arith)
 
-pub listing-end : {labels : List ℕ} {m cw ch w h kept : ℕ} {list : List Region} → Listing labels m cw ch w h kept list → kept ≡ keptOf (sizeIn labels) m
+pub listing-end : {labels : List ℕ} {m cw ch w h kept : ℕ} {list : List Region} → Listing labels m cw ch w h kept list
+    → kept ≡ keptOf (sizeIn labels) m
     → _≡_ {A = Kept} (record { all = m; kept = kept; list = list }) (keptIn labels m cw ch w h)
 unfolding keptIn placeIn
 listing-end {labels} {m} {cw} {ch} {w} {h} {kept} {list} q e =
@@ -103,7 +107,8 @@ module _ (p : Plane) (w h : ℕ) (labels : List ℕ) (is : labels ≡ tab (cells
   size-listed : (i : ℕ) → sizeIn labels i ≡ groupSize p w h i
   unfolding sizeIn groupSize
   size-listed i =
-      rw many (count-ext (λ c. eqb (cellLabel p w h c) (suc i)) (λ c. eqb (getD labels c 0) (suc i)) (cellsOf w h) (λ c b. sym (same (suc i) c b)))
+      rw many (count-ext (λ c. eqb (cellLabel p w h c) (suc i)) (λ c. eqb (getD labels c 0) (suc i)) (cellsOf w h)
+      (λ c b. sym (same (suc i) c b)))
 
   low-listed : (l d : ℕ) (f : ℕ → ℕ) → lowest (has labels l) f d (length labels) ≡ lowest (λ c. eqb (cellLabel p w h c) l) f d (cellsOf w h)
   unfolding has

@@ -66,12 +66,16 @@ pub record Pair (p : ℕ → Bool) (n : ℕ) (p′ : ℕ → Bool) (n′ : ℕ) 
 
 module _ {p : ℕ → Bool} {n : ℕ} {p′ : ℕ → Bool} {n′ : ℕ} {to back : ℕ → ℕ} (q : Pair p n p′ n′ to back) (f f′ : ℕ → ℕ) where
   -- a side that stays a side
-  pub low-same : (d d′ a : ℕ) → a < n → p a ≡ true → f a ≤ d → f a ≤ d′ → ((c : ℕ) → c < n → p c ≡ true → f′ (to c) ≡ f c) → lowest p′ f′ d′ n′ ≡ lowest p f d n
+  pub low-same : (d d′ a : ℕ) → a < n → p a ≡ true → f a ≤ d → f a ≤ d′ → ((c : ℕ) → c < n → p c ≡ true → f′ (to c) ≡ f c)
+      → lowest p′ f′ d′ n′ ≡ lowest p f d n
   low-same d d′ a h t b b′ e =
-      let x : lowest p f d n ≤ lowest p′ f′ d′ n′ = lowest-glb p′ f′ d′ n′ (lowest p f d n) (omega (arith, lowest-lower p f d n a h t)) (λ c l u.
+      let x : lowest p f d n ≤ lowest p′ f′ d′ n′ =
+      lowest-glb p′ f′ d′ n′ (lowest p f d n) (omega (arith, lowest-lower p f d n a h t)) (λ c l u.
       let r = q .again c l u in
       omega (arith, lowest-lower p f d n (back c) (r .0) (r .1), e (back c) (r .0) (r .1), ap f′ (r .2))) in
-      let y : lowest p′ f′ d′ n′ ≤ lowest p f d n = lowest-glb p f d n (lowest p′ f′ d′ n′) (omega (arith, lowest-lower p′ f′ d′ n′ (to a) (q .there a h t .0) (q .there a h t .1), e a h t)) (λ c l u.
+      let y : lowest p′ f′ d′ n′ ≤ lowest p f d n =
+      lowest-glb p f d n (lowest p′ f′ d′ n′)
+      (omega (arith, lowest-lower p′ f′ d′ n′ (to a) (q .there a h t .0) (q .there a h t .1), e a h t)) (λ c l u.
       let r = q .there c l u in
       omega (arith, lowest-lower p′ f′ d′ n′ (to c) (r .0) (r .1), e c l u)) in
       omega arith
@@ -87,9 +91,11 @@ module _ {p : ℕ → Bool} {n : ℕ} {p′ : ℕ → Bool} {n′ : ℕ} {to bac
       omega arith
 
   -- a side that becomes the opposite one
-  pub low-flip : (s d′ a : ℕ) → a < n → p a ≡ true → f′ (to a) ≤ d′ → ((c : ℕ) → c < n → p c ≡ true → f′ (to c) + f c + 1 ≡ s) → lowest p′ f′ d′ n′ + highest p f n ≡ s
+  pub low-flip : (s d′ a : ℕ) → a < n → p a ≡ true → f′ (to a) ≤ d′ → ((c : ℕ) → c < n → p c ≡ true → f′ (to c) + f c + 1 ≡ s)
+      → lowest p′ f′ d′ n′ + highest p f n ≡ s
   low-flip s d′ a h t b e =
-      let x : s - highest p f n ≤ lowest p′ f′ d′ n′ = lowest-glb p′ f′ d′ n′ (s - highest p f n) (omega (arith, highest-upper p f n a h t, e a h t)) (λ c l u.
+      let x : s - highest p f n ≤ lowest p′ f′ d′ n′ =
+      lowest-glb p′ f′ d′ n′ (s - highest p f n) (omega (arith, highest-upper p f n a h t, e a h t)) (λ c l u.
       let r = q .again c l u in
       omega (arith, highest-upper p f n (back c) (r .0) (r .1), e (back c) (r .0) (r .1), ap f′ (r .2))) in
       let y : highest p f n ≤ s - lowest p′ f′ d′ n′ = highest-lub p f n (s - lowest p′ f′ d′ n′) (λ c l u.
@@ -97,29 +103,42 @@ module _ {p : ℕ → Bool} {n : ℕ} {p′ : ℕ → Bool} {n′ : ℕ} {to bac
       omega (arith, lowest-lower p′ f′ d′ n′ (to c) (r .0) (r .1), e c l u)) in
       omega (arith, lowest-lower p′ f′ d′ n′ (to a) (q .there a h t .0) (q .there a h t .1), e a h t)
 
-  pub high-flip : (s d a : ℕ) → a < n → p a ≡ true → f a ≤ d → ((c : ℕ) → c < n → p c ≡ true → f′ (to c) + f c + 1 ≡ s) → highest p′ f′ n′ + lowest p f d n ≡ s
+  pub high-flip : (s d a : ℕ) → a < n → p a ≡ true → f a ≤ d → ((c : ℕ) → c < n → p c ≡ true → f′ (to c) + f c + 1 ≡ s)
+      → highest p′ f′ n′ + lowest p f d n ≡ s
   high-flip s d a h t b e =
       let x : highest p′ f′ n′ ≤ s - lowest p f d n = highest-lub p′ f′ n′ (s - lowest p f d n) (λ c l u.
       let r = q .again c l u in
       omega (arith, lowest-lower p f d n (back c) (r .0) (r .1), e (back c) (r .0) (r .1), ap f′ (r .2))) in
-      let y : s - highest p′ f′ n′ ≤ lowest p f d n = lowest-glb p f d n (s - highest p′ f′ n′) (omega (arith, highest-upper p′ f′ n′ (to a) (q .there a h t .0) (q .there a h t .1), e a h t)) (λ c l u.
+      let y : s - highest p′ f′ n′ ≤ lowest p f d n =
+      lowest-glb p f d n (s - highest p′ f′ n′)
+      (omega (arith, highest-upper p′ f′ n′ (to a) (q .there a h t .0) (q .there a h t .1), e a h t)) (λ c l u.
       let r = q .there c l u in
       omega (arith, highest-upper p′ f′ n′ (to c) (r .0) (r .1), e c l u)) in
       omega (arith, lowest-lower p f d n a h t, e a h t)
 
 -- A group and the moved group are such a pair.
-module _ {ink : ℕ → Bool} {near₀ : ℕ → ℕ → Bool} {ink′ : ℕ → Bool} {near′ : ℕ → ℕ → Bool} {f : ℕ → ℕ} (n n′ : ℕ) (g : Grid ink near₀ n) (g′ : Grid ink′ near′ n′) (m : Carry ink near₀ ink′ near′ f) where
+module _ {ink : ℕ → Bool} {near₀ : ℕ → ℕ → Bool} {ink′ : ℕ → Bool} {near′ : ℕ → ℕ → Bool} {f : ℕ → ℕ} (n n′ : ℕ) (g : Grid ink near₀ n)
+    (g′ : Grid ink′ near′ n′) (m : Carry ink near₀ ink′ near′ f) where
   pub group-ink : (a c : ℕ) → ink a ≡ true → group ink near₀ n a c ≡ true → ink c ≡ true
   unfolding group
-  group-ink a c i t = ⊎-elim (λ x. x) (λ x. absurd (omega (arith, eqb-true (label ink near₀ n c) (label ink near₀ n a) t, label-none ink near₀ n g c x, label-ink ink near₀ n g a i))) (which (ink c))
+  group-ink a c i t = ⊎-elim (λ x. x)
+      (λ x. absurd (omega (
+        arith,
+        eqb-true (label ink near₀ n c) (label ink near₀ n a) t,
+        label-none ink near₀ n g c x,
+        label-ink ink near₀ n g a i,
+      ))) (which (ink c))
 
   pub group-to : (a c : ℕ) → ink a ≡ true → group ink near₀ n a c ≡ true → (f c < n′) × (group ink′ near′ n′ (f a) (f c) ≡ true)
   unfolding group
   group-to a c i t =
-      let j = group-ink a c i t in
-      (g′ .within (f c) (m .ink-to c j), eq-eqb _ _ (moved-groups n n′ g g′ m c a j i .0 (eqb-true (label ink near₀ n c) (label ink near₀ n a) t)))
+      let j = group-ink a c i t in (
+        g′ .within (f c) (m .ink-to c j),
+        eq-eqb _ _ (moved-groups n n′ g g′ m c a j i .0 (eqb-true (label ink near₀ n c) (label ink near₀ n a) t)),
+      )
 
-pub move-pair : {ink : ℕ → Bool} {near₀ : ℕ → ℕ → Bool} {ink′ : ℕ → Bool} {near′ : ℕ → ℕ → Bool} {f : ℕ → ℕ} (n n′ : ℕ) (g : Grid ink near₀ n) (g′ : Grid ink′ near′ n′) (m : Carry ink near₀ ink′ near′ f) (a : ℕ) → ink a ≡ true
+pub move-pair : {ink : ℕ → Bool} {near₀ : ℕ → ℕ → Bool} {ink′ : ℕ → Bool} {near′ : ℕ → ℕ → Bool} {f : ℕ → ℕ} (n n′ : ℕ)
+    (g : Grid ink near₀ n) (g′ : Grid ink′ near′ n′) (m : Carry ink near₀ ink′ near′ f) (a : ℕ) → ink a ≡ true
     → Pair (group ink near₀ n a) n (group ink′ near′ n′ (f a)) n′ f (m .back)
 move-pair {f = f} n n′ g g′ m a i = record {
   there = λ c l t. group-to n n′ g g′ m a c i t;

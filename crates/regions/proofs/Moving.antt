@@ -27,16 +27,21 @@ unfolding placeOf
 place-close still w h x y u v lx ly lu lv c d = (c, d)
 place-close flipped w h x y u v lx ly lu lv c d = (flip-close w x u lx lu c, d)
 place-close (turned m) w h x y u v lx ly lu lv c d =
-    let ih = place-close m w h x y u v lx ly lu lv c d in
-    (flip-close (highOf m w h) (placeOf m w h x y .1) (placeOf m w h u v .1) (place-within m w h x y lx ly .1) (place-within m w h u v lu lv .1) (ih .1), ih .0)
+    let ih = place-close m w h x y u v lx ly lu lv c d in (
+      flip-close (highOf m w h) (placeOf m w h x y .1) (placeOf m w h u v .1) (place-within m w h x y lx ly .1)
+          (place-within m w h u v lu lv .1) (ih .1),
+      ih .0,
+    )
 
-pub back-close : (m : Move) (w h x y u v : ℕ) → x < wideOf m w h → y < highOf m w h → u < wideOf m w h → v < highOf m w h → close x u ≡ true → close y v ≡ true
+pub back-close : (m : Move) (w h x y u v : ℕ) → x < wideOf m w h → y < highOf m w h → u < wideOf m w h → v < highOf m w h
+    → close x u ≡ true → close y v ≡ true
     → (close (backOf m w h x y .0) (backOf m w h u v .0) ≡ true) × (close (backOf m w h x y .1) (backOf m w h u v .1) ≡ true)
 unfolding backOf sidesOf
 back-close still w h x y u v lx ly lu lv c d = (c, d)
 back-close flipped w h x y u v lx ly lu lv c d = (flip-close w x u lx lu c, d)
 back-close (turned m) w h x y u v lx ly lu lv c d =
-    back-close m w h y (highOf m w h - 1 - x) v (highOf m w h - 1 - u) ly (omega arith) lv (omega arith) d (flip-close (highOf m w h) x u lx lu c)
+    back-close m w h y (highOf m w h - 1 - x) v (highOf m w h - 1 - u) ly (omega arith) lv (omega arith) d
+    (flip-close (highOf m w h) x u lx lu c)
 
 -- ---- cells by number
 -- where cell c of a by b goes, in rows of a′
@@ -68,7 +73,10 @@ module _ (m : Move) (a b a′ b′ : ℕ) (ea : a′ ≡ wideOf m a b) (eb : b�
       let lx = column-lt a b c l pos in
       let ly = row-lt a b c l pos in
       let w = within′ (c % a) (c / a) lx ly in
-      rw (cell-column a′ (placeOf m a b (c % a) (c / a) .0) (placeOf m a b (c % a) (c / a) .1) w, cell-row a′ (placeOf m a b (c % a) (c / a) .0) (placeOf m a b (c % a) (c / a) .1) w)
+      rw (
+        cell-column a′ (placeOf m a b (c % a) (c / a) .0) (placeOf m a b (c % a) (c / a) .1) w,
+        cell-row a′ (placeOf m a b (c % a) (c / a) .0) (placeOf m a b (c % a) (c / a) .1) w,
+      )
       (ap (λ (q : ℕ × ℕ). cell a (q .0) (q .1)) (back-place m a b (c % a) (c / a) lx ly) ∙ cell-of a c)
 
   there′ : (c : ℕ) → c < b′ * a′ → cellTo m a b a′ (cellBack c) ≡ c

@@ -54,11 +54,13 @@ upto-turn {s} {p} {k} {a} h u (took w q t) = record {
     not-ahead c (inl e) v y = ap (λ (x : ℕ). ahead (binsOf s) x k) e ∙ order (binsOf s) .irr k
     not-ahead c (inr l) v y =
         let z = u .all c l v y in
-        ⊎-elim (λ x. absurd (clash (order (binsOf s) .trans c k a x (beats-yes s a k t (z .0))) (z .1))) (λ x. x) (which (ahead (binsOf s) c k))
+        ⊎-elim (λ x. absurd (clash (order (binsOf s) .trans c k a x (beats-yes s a k t (z .0))) (z .1))) (λ x. x)
+        (which (ahead (binsOf s) c k))
 upto-turn {s} {p} {k} {a} h u (left f) = record {
   most = u .most;
   real = u .real;
-  all = λ c d v y. ⊎-elim (λ e. rw (← e) at (beats-no s a k (f (rw e at v) (rw e at y)))) (λ l. u .all c l v y) (at-or-below c k (rw add-one at d));
+  all = λ c d v y. ⊎-elim (λ e. rw (← e) at (beats-no s a k (f (rw e at v) (rw e at y)))) (λ l. u .all c l v y)
+      (at-or-below c k (rw add-one at d));
 }
 
 -- After `i` of them: those before, and `p` the last of these (the length before the first).
@@ -77,7 +79,8 @@ unfolding behind
 behind-real s p b h = rw (lt-ltb p (length s) h) refl
 
 -- the place of the one that is found
-found-place : (s : List ℕ) (i p a : ℕ) (at : List ℕ) → Picking s i p at → Found s p a → a < length s → place (want (binsOf s)) (ahead (binsOf s)) (length s) a ≡ i
+found-place : (s : List ℕ) (i p a : ℕ) (at : List ℕ) → Picking s i p at → Found s p a → a < length s
+    → place (want (binsOf s)) (ahead (binsOf s)) (length s) a ≡ i
 found-place s i p a at k f h = go (ℕ-discrete i 0)
   where
     go : Dec (i ≡ 0) → place (want (binsOf s)) (ahead (binsOf s)) (length s) a ≡ i
@@ -97,13 +100,20 @@ found-place s i p a at k f h = go (ℕ-discrete i 0)
         }) ∙ l .2
 
 pub picking-begin : (s at : List ℕ) → Picking s 0 (length s) at
-picking-begin s at = record { done = λ j h. absurd (omega arith); inside = λ j h. absurd (omega arith); start = λ e. refl; last = λ h. absurd (omega arith) }
+picking-begin s at =
+    record { done = λ j h. absurd (omega arith); inside = λ j h. absurd (omega arith); start = λ e. refl; last = λ h. absurd (omega arith) }
 
-pub picking-turn : {s at at′ : List ℕ} {i p a : ℕ} → Picking s i p at → Found s p a → a < length s → ((j : ℕ) → j < i → getD at′ j 0 ≡ getD at j 0) → getD at′ i 0 ≡ a → Picking s (i + 1) a at′
+pub picking-turn : {s at at′ : List ℕ} {i p a : ℕ} → Picking s i p at → Found s p a → a < length s
+    → ((j : ℕ) → j < i → getD at′ j 0 ≡ getD at j 0) → getD at′ i 0 ≡ a → Picking s (i + 1) a at′
 unfolding keptAt
 picking-turn {s} {at} {at′} {i} {p} {a} k f h old new = record {
-  done = λ j d. ⊎-elim (λ e. ap (λ (x : ℕ). getD at′ x 0) e ∙ (new ∙ (sym (nth-is (want (binsOf s)) (ahead (binsOf s)) (length s) (order (binsOf s)) a i h (f .real h .0) (found-place s i p a at k f h)) ∙ ap (λ (x : ℕ). nth (want (binsOf s)) (ahead (binsOf s)) (length s) x) (sym e)))) (λ l. old j l ∙ k .done j l) (at-or-below j i (rw add-one at d));
-  inside = λ j d. ⊎-elim (λ e. omega (arith, new, ap (λ (x : ℕ). getD at′ x 0) e)) (λ l. omega (arith, old j l, k .inside j l)) (at-or-below j i (rw add-one at d));
+  done = λ j d. ⊎-elim
+      (λ e. ap (λ (x : ℕ). getD at′ x 0) e
+      ∙ (new ∙ (sym (nth-is (want (binsOf s)) (ahead (binsOf s)) (length s) (order (binsOf s)) a i h (f .real h .0)
+      (found-place s i p a at k f h)) ∙ ap (λ (x : ℕ). nth (want (binsOf s)) (ahead (binsOf s)) (length s) x) (sym e))))
+      (λ l. old j l ∙ k .done j l) (at-or-below j i (rw add-one at d));
+  inside = λ j d. ⊎-elim (λ e. omega (arith, new, ap (λ (x : ℕ). getD at′ x 0) e)) (λ l. omega (arith, old j l, k .inside j l))
+      (at-or-below j i (rw add-one at d));
   start = λ e. absurd (omega arith);
   last = λ z. (h, f .real h .0, omega (arith, found-place s i p a at k f h));
 }
@@ -116,10 +126,12 @@ picking-out {s} {at} {i} {p} {a} k f e = go (ℕ-discrete i 0)
     none b h w = ⊎-elim (λ t. absurd (omega (arith, f .all b h w t .0))) (λ t. t) (which (behind s p b))
 
     go : Dec (i ≡ 0) → count (want (binsOf s)) (length s) ≡ i
-    go (yes z) = count-none (want (binsOf s)) (length s) (λ b h. ⊎-elim (λ w. absurd (clash (behind-start s p b (k .start z)) (none b h w))) (λ w. w) (which (want (binsOf s) b))) ∙ sym z
+    go (yes z) = count-none (want (binsOf s)) (length s)
+        (λ b h. ⊎-elim (λ w. absurd (clash (behind-start s p b (k .start z)) (none b h w))) (λ w. w) (which (want (binsOf s) b))) ∙ sym z
     go (no z) =
         let l = k .last (omega arith) in
-        last-place (want (binsOf s)) (ahead (binsOf s)) (length s) (order (binsOf s)) p (l .0) (l .1) (λ b h w. sym (behind-real s p b (l .0)) ∙ none b h w) ∙ l .2
+        last-place (want (binsOf s)) (ahead (binsOf s)) (length s) (order (binsOf s)) p (l .0) (l .1)
+        (λ b h w. sym (behind-real s p b (l .0)) ∙ none b h w) ∙ l .2
 
 -- four are picked: there are at least four
 pub picking-full : {s at : List ℕ} {p : ℕ} → Picking s 4 p at → 4 ≤ count (want (binsOf s)) (length s)

@@ -37,7 +37,8 @@ cells-box (turned m) A B q x y lx ly =
     let w = place-within m A B x y lx ly in
     let e : 8 * h - (8 * (h - 1 - P .1) + 8) ≡ 8 * P .1 = far8 h (P .1) (w .1) in
     ap (λ (k : ℕ). box _+_ 0 (mirror k (transpose (moved m (8 * A) (8 * B) q))) (8 * (h - 1 - P .1)) (8 * P .0) 8 8) (s .1)
-    ∙ box-mirror _+_ 0 add-comm add-assoc (8 * h) (transpose (moved m (8 * A) (8 * B) q)) (8 * (h - 1 - P .1)) (8 * P .0) 8 8 (in8 h (P .1) (w .1))
+    ∙ box-mirror _+_ 0 add-comm add-assoc (8 * h) (transpose (moved m (8 * A) (8 * B) q)) (8 * (h - 1 - P .1)) (8 * P .0) 8 8
+    (in8 h (P .1) (w .1))
     ∙ ap (λ (k : ℕ). box _+_ 0 (transpose (moved m (8 * A) (8 * B) q)) k (8 * P .0) 8 8) e
     ∙ box-transpose _+_ 0 add-comm add-assoc refl (moved m (8 * A) (8 * B) q) (8 * P .1) (8 * P .0) 8 8
     ∙ cells-box m A B q x y lx ly
@@ -57,7 +58,8 @@ cells8-8 A = omega arith
 span8-in : (A x : ℕ) → x < A → span8 (8 * A) x ≡ 8
 span8-in A x l = omega arith
 
-module _ (m : Move) (W H : ℕ) (p p′ : Plane) (same : Alike (wideOf m (16 * W) (16 * H)) (highOf m (16 * W) (16 * H)) p′ (moved m (16 * W) (16 * H) p)) where
+module _ (m : Move) (W H : ℕ) (p p′ : Plane)
+    (same : Alike (wideOf m (16 * W) (16 * H)) (highOf m (16 * W) (16 * H)) p′ (moved m (16 * W) (16 * H) p)) where
   abbrev w′ : ℕ
   w′ = wideOf m (16 * W) (16 * H)
 
@@ -90,14 +92,16 @@ module _ (m : Move) (W H : ℕ) (p p′ : Plane) (same : Alike (wideOf m (16 * W
   high-cells = ap cells8 high8 ∙ cells8-8 (highOf m a b)
 
   -- as many ink pixels in the moved cell
-  pixels-of : (x y : ℕ) → x < a → y < b → inkPixels p′ w′ h′ (placeOf m a b x y .0) (placeOf m a b x y .1) ≡ inkPixels p (16 * W) (16 * H) x y
+  pixels-of : (x y : ℕ) → x < a → y < b
+      → inkPixels p′ w′ h′ (placeOf m a b x y .0) (placeOf m a b x y .1) ≡ inkPixels p (16 * W) (16 * H) x y
   unfolding inkPixels
   pixels-of x y lx ly =
       let P = placeOf m a b x y in
       let w = place-within m a b x y lx ly in
       let q : Plane = λ i j. bit (inkAt p (16 * W) (16 * H) i j) in
       let q′ : Plane = λ i j. bit (inkAt p′ w′ h′ i j) in
-      let al : Alike w′ h′ q′ (moved m (16 * W) (16 * H) q) = alike-of m (16 * W) (16 * H) q′ q (λ i j li lj. ap bit (ink-of m W H p p′ same i j li lj)) in
+      let al : Alike w′ h′ q′ (moved m (16 * W) (16 * H) q) =
+      alike-of m (16 * W) (16 * H) q′ q (λ i j li lj. ap bit (ink-of m W H p p′ same i j li lj)) in
       let sx : span8 w′ (P .0) ≡ 8 = ap (λ (k : ℕ). span8 k (P .0)) wide8 ∙ span8-in (wideOf m a b) (P .0) (w .0) in
       let sy : span8 h′ (P .1) ≡ 8 = ap (λ (k : ℕ). span8 k (P .1)) high8 ∙ span8-in (highOf m a b) (P .1) (w .1) in
       let e : 16 * W ≡ 8 * a = omega arith in
@@ -106,7 +110,8 @@ module _ (m : Move) (W H : ℕ) (p p′ : Plane) (same : Alike (wideOf m (16 * W
       let ty : span8 (16 * H) y ≡ 8 = ap (λ (k : ℕ). span8 k y) f ∙ span8-in b y ly in
       ap₂ (λ (i j : ℕ). box _+_ 0 q′ (8 * P .0) (8 * P .1) i j) sx sy
       ∙ box-ext _+_ 0 q′ (moved m (16 * W) (16 * H) q) (8 * P .0) (8 * P .1) 8 8
-      (λ i j li lj. al (8 * P .0 + i) (8 * P .1 + j) (rw wide8 (in-8 (wideOf m a b) (P .0) i (w .0) li)) (rw high8 (in-8 (highOf m a b) (P .1) j (w .1) lj)))
+      (λ i j li lj. al (8 * P .0 + i) (8 * P .1 + j) (rw wide8 (in-8 (wideOf m a b) (P .0) i (w .0) li))
+      (rw high8 (in-8 (highOf m a b) (P .1) j (w .1) lj)))
       ∙ ap₂ (λ (i j : ℕ). box _+_ 0 (moved m i j q) (8 * P .0) (8 * P .1) 8 8) e f
       ∙ cells-box m a b q x y lx ly
       ∙ sym (ap₂ (λ (i j : ℕ). box _+_ 0 q (8 * x) (8 * y) i j) tx ty)
@@ -114,7 +119,8 @@ module _ (m : Move) (W H : ℕ) (p p′ : Plane) (same : Alike (wideOf m (16 * W
       in-8 : (n x i : ℕ) → x < n → i < 8 → 8 * x + i < 8 * n
       in-8 n x i l k = omega arith
 
-  pub cell-ink-of : (x y : ℕ) → x < a → y < b → inkCell p′ w′ h′ (cell (cells8 w′) (placeOf m a b x y .0) (placeOf m a b x y .1)) ≡ inkCell p (16 * W) (16 * H) (cell a x y)
+  pub cell-ink-of : (x y : ℕ) → x < a → y < b
+      → inkCell p′ w′ h′ (cell (cells8 w′) (placeOf m a b x y .0) (placeOf m a b x y .1)) ≡ inkCell p (16 * W) (16 * H) (cell a x y)
   unfolding inkCell
   cell-ink-of x y lx ly =
       let P = placeOf m a b x y in
@@ -138,11 +144,14 @@ ink-inside p w h c t = ltb-true c (cellsOf w h) (and-left (ltb c (cellsOf w h)) 
 pub grid-of : (p : Plane) (w h : ℕ) → Grid (inkCell p w h) (near (cells8 w)) (cellsOf w h)
 grid-of p w h = grid (inkCell p w h) (cells8 w) (cellsOf w h) (ink-inside p w h)
 
-module _ (m : Move) (W H : ℕ) (posW : 0 < W) (posH : 0 < H) (p p′ : Plane) (same : Alike (wideOf m (16 * W) (16 * H)) (highOf m (16 * W) (16 * H)) p′ (moved m (16 * W) (16 * H) p)) where
-  pub picture-carry : Carry (inkCell p (16 * W) (16 * H)) (near (cells8 (16 * W))) (inkCell p′ (wideOf m (16 * W) (16 * H)) (highOf m (16 * W) (16 * H))) (near (cells8 (wideOf m (16 * W) (16 * H))))
+module _ (m : Move) (W H : ℕ) (posW : 0 < W) (posH : 0 < H) (p p′ : Plane)
+    (same : Alike (wideOf m (16 * W) (16 * H)) (highOf m (16 * W) (16 * H)) p′ (moved m (16 * W) (16 * H) p)) where
+  pub picture-carry : Carry (inkCell p (16 * W) (16 * H)) (near (cells8 (16 * W)))
+      (inkCell p′ (wideOf m (16 * W) (16 * H)) (highOf m (16 * W) (16 * H))) (near (cells8 (wideOf m (16 * W) (16 * H))))
       (cellTo m (cells8 (16 * W)) (cells8 (16 * H)) (cells8 (wideOf m (16 * W) (16 * H))))
   picture-carry =
-      place-carry m (cells8 (16 * W)) (cells8 (16 * H)) (cells8 (w′ m W H p p′ same)) (cells8 (h′ m W H p p′ same)) (wide-cells m W H p p′ same) (high-cells m W H p p′ same)
+      place-carry m (cells8 (16 * W)) (cells8 (16 * H)) (cells8 (w′ m W H p p′ same)) (cells8 (h′ m W H p p′ same))
+      (wide-cells m W H p p′ same) (high-cells m W H p p′ same)
       (omega arith) (rw (wide-cells m W H p p′ same) (wide-pos m (cells8 (16 * W)) (cells8 (16 * H)) (omega arith) (omega arith)))
       (inkCell p (16 * W) (16 * H)) (inkCell p′ (wideOf m (16 * W) (16 * H)) (highOf m (16 * W) (16 * H)))
       (ink-inside p (16 * W) (16 * H)) (ink-inside p′ (wideOf m (16 * W) (16 * H)) (highOf m (16 * W) (16 * H)))
@@ -155,13 +164,16 @@ module _ (m : Move) (W H : ℕ) (posW : 0 < W) (posH : 0 < H) (p p′ : Plane) (
   pub groups-of : (x y u v : ℕ) → x < cells8 (16 * W) → y < cells8 (16 * H) → u < cells8 (16 * W) → v < cells8 (16 * H)
       → inkCell p (16 * W) (16 * H) (cell (cells8 (16 * W)) x y) ≡ true → inkCell p (16 * W) (16 * H) (cell (cells8 (16 * W)) u v) ≡ true
       → (labelAt p (16 * W) (16 * H) x y ≡ labelAt p (16 * W) (16 * H) u v)
-      ↔ (labelAt p′ (wideOf m (16 * W) (16 * H)) (highOf m (16 * W) (16 * H)) (placeOf m (cells8 (16 * W)) (cells8 (16 * H)) x y .0) (placeOf m (cells8 (16 * W)) (cells8 (16 * H)) x y .1)
-      ≡ labelAt p′ (wideOf m (16 * W) (16 * H)) (highOf m (16 * W) (16 * H)) (placeOf m (cells8 (16 * W)) (cells8 (16 * H)) u v .0) (placeOf m (cells8 (16 * W)) (cells8 (16 * H)) u v .1))
+      ↔ (labelAt p′ (wideOf m (16 * W) (16 * H)) (highOf m (16 * W) (16 * H)) (placeOf m (cells8 (16 * W)) (cells8 (16 * H)) x y .0)
+      (placeOf m (cells8 (16 * W)) (cells8 (16 * H)) x y .1)
+      ≡ labelAt p′ (wideOf m (16 * W) (16 * H)) (highOf m (16 * W) (16 * H)) (placeOf m (cells8 (16 * W)) (cells8 (16 * H)) u v .0)
+      (placeOf m (cells8 (16 * W)) (cells8 (16 * H)) u v .1))
   unfolding labelAt cellLabel
   groups-of x y u v lx ly lu lv i j =
       let a = cells8 (16 * W) in
       let b = cells8 (16 * H) in
       let a′ = cells8 (wideOf m (16 * W) (16 * H)) in
       rw (← cell-to m a b a′ x y lx, ← cell-to m a b a′ u v lu)
-      (moved-groups (cellsOf (16 * W) (16 * H)) (cellsOf (wideOf m (16 * W) (16 * H)) (highOf m (16 * W) (16 * H))) (grid-of p (16 * W) (16 * H)) (grid-of p′ (wideOf m (16 * W) (16 * H)) (highOf m (16 * W) (16 * H)))
+      (moved-groups (cellsOf (16 * W) (16 * H)) (cellsOf (wideOf m (16 * W) (16 * H)) (highOf m (16 * W) (16 * H)))
+      (grid-of p (16 * W) (16 * H)) (grid-of p′ (wideOf m (16 * W) (16 * H)) (highOf m (16 * W) (16 * H)))
       picture-carry (cell a x y) (cell a u v) i j)

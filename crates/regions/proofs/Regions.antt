@@ -27,7 +27,8 @@ use Rattle.regions.proofs.Kept.{Anew, Untied, At, kept-at, kept-same, k
 use Rattle.regions.proofs.BoxMoves.{boxBy, box-pair, box-place, box≡, finerBox, box-finer}
 
 -- No two groups of 16 or more cells have equal counts: the same as the law of the order asks.
-module _ (m : Move) (W H : ℕ) (posW : 0 < W) (posH : 0 < H) (p p′ : Plane) (same : Alike (wideOf m (16 * W) (16 * H)) (highOf m (16 * W) (16 * H)) p′ (moved m (16 * W) (16 * H) p)) where
+module _ (m : Move) (W H : ℕ) (posW : 0 < W) (posH : 0 < H) (p p′ : Plane)
+    (same : Alike (wideOf m (16 * W) (16 * H)) (highOf m (16 * W) (16 * H)) p′ (moved m (16 * W) (16 * H) p)) where
   abbrev w : ℕ
   w = 16 * W
 
@@ -122,7 +123,8 @@ module _ (m : Move) (W H : ℕ) (posW : 0 < W) (posH : 0 < H) (p p′ : Plane) (
     region-cell = (c, ink-inside p w h c (c-is .0), label-is)
 
     -- as many cells
-    pub size-of : groupSize p′ w′ h′ (keptAt (groupSize p′ w′ h′) (groupsOf p′ w′ h′) i) ≡ groupSize p w h (keptAt (groupSize p w h) (groupsOf p w h) i)
+    pub size-of : groupSize p′ w′ h′ (keptAt (groupSize p′ w′ h′) (groupsOf p′ w′ h′) i)
+        ≡ groupSize p w h (keptAt (groupSize p w h) (groupsOf p w h) i)
     size-of = ap (groupSize p′ w′ h′) (kept-anew anew untied i enough) ∙ anew .size k k-lt
 
     -- a labelled cell is ink
@@ -130,7 +132,13 @@ module _ (m : Move) (W H : ℕ) (posW : 0 < W) (posH : 0 < H) (p p′ : Plane) (
     ink-labelled d e = ⊎-elim (λ x. x) (λ x. absurd (omega (arith, e, label-none ink (near a) n g d x))) (which (ink d))
 
     ink-labelled′ : (d : ℕ) → label ink′ (near (cells8 w′)) n′ d ≡ label ink′ (near (cells8 w′)) n′ (f c) → ink′ d ≡ true
-    ink-labelled′ d e = ⊎-elim (λ x. x) (λ x. absurd (omega (arith, e, label-ink ink′ (near (cells8 w′)) n′ g′ (f c) (carry .ink-to c (c-is .0)), label-none ink′ (near (cells8 w′)) n′ g′ d x))) (which (ink′ d))
+    ink-labelled′ d e = ⊎-elim (λ x. x)
+        (λ x. absurd (omega (
+          arith,
+          e,
+          label-ink ink′ (near (cells8 w′)) n′ g′ (f c) (carry .ink-to c (c-is .0)),
+          label-none ink′ (near (cells8 w′)) n′ g′ d x,
+        ))) (which (ink′ d))
 
     -- the moved cells
     pub region-of : (x y : ℕ) → x < a → y < b
@@ -144,15 +152,19 @@ module _ (m : Move) (W H : ℕ) (posW : 0 < W) (posH : 0 < H) (p p′ : Plane) (
         fd : f d ≡ cell (cells8 w′) (placeOf m a b x y .0) (placeOf m a b x y .1)
         fd = cell-to m a b (cells8 w′) x y lx
 
-        to : label ink (near a) n (cell a x y) ≡ keptLabel p w h i → label ink′ (near (cells8 w′)) n′ (cell (cells8 w′) (placeOf m a b x y .0) (placeOf m a b x y .1)) ≡ keptLabel p′ w′ h′ i
+        to : label ink (near a) n (cell a x y) ≡ keptLabel p w h i
+            → label ink′ (near (cells8 w′)) n′ (cell (cells8 w′) (placeOf m a b x y .0) (placeOf m a b x y .1)) ≡ keptLabel p′ w′ h′ i
         to e =
             let e₀ : label ink (near a) n (cell a x y) ≡ suc k = e ∙ sym label-is ∙ c-is .1 in
             let j = ink-labelled (cell a x y) e₀ in
-            ap (label ink′ (near (cells8 w′)) n′) (sym fd) ∙ moved-groups n n′ g g′ carry (cell a x y) c j (c-is .0) .0 (e₀ ∙ sym (c-is .1)) ∙ label-is′
+            ap (label ink′ (near (cells8 w′)) n′) (sym fd)
+            ∙ moved-groups n n′ g g′ carry (cell a x y) c j (c-is .0) .0 (e₀ ∙ sym (c-is .1)) ∙ label-is′
 
-        from : label ink′ (near (cells8 w′)) n′ (cell (cells8 w′) (placeOf m a b x y .0) (placeOf m a b x y .1)) ≡ keptLabel p′ w′ h′ i → label ink (near a) n (cell a x y) ≡ keptLabel p w h i
+        from : label ink′ (near (cells8 w′)) n′ (cell (cells8 w′) (placeOf m a b x y .0) (placeOf m a b x y .1)) ≡ keptLabel p′ w′ h′ i
+            → label ink (near a) n (cell a x y) ≡ keptLabel p w h i
         from e =
-            let e₀ : label ink′ (near (cells8 w′)) n′ (cell (cells8 w′) (placeOf m a b x y .0) (placeOf m a b x y .1)) ≡ label ink′ (near (cells8 w′)) n′ (f c) = e ∙ sym label-is′ in
+            let e₀ : label ink′ (near (cells8 w′)) n′ (cell (cells8 w′) (placeOf m a b x y .0) (placeOf m a b x y .1))
+            ≡ label ink′ (near (cells8 w′)) n′ (f c) = e ∙ sym label-is′ in
             let j′ = ink-labelled′ (cell (cells8 w′) (placeOf m a b x y .0) (placeOf m a b x y .1)) e₀ in
             let j : ink (cell a x y) ≡ true = sym (cell-ink-of m W H p p′ same x y lx ly) ∙ j′ in
             moved-groups n n′ g g′ carry (cell a x y) c j (c-is .0) .1 (ap (label ink′ (near (cells8 w′)) n′) fd ∙ e₀) ∙ label-is
@@ -171,16 +183,21 @@ module _ (m : Move) (W H : ℕ) (posW : 0 < W) (posH : 0 < H) (p p′ : Plane) (
     unfolding cellTo
     to-at d s =
         let t = in-a d s in
-        let u : placeOf m a b (d % a) (d / a) .0 < cells8 w′ = rw (wide-cells m W H p p′ same) (place-within m a b (d % a) (d / a) (t .0) (t .1) .0) in
+        let u : placeOf m a b (d % a) (d / a) .0 < cells8 w′ =
+        rw (wide-cells m W H p p′ same) (place-within m a b (d % a) (d / a) (t .0) (t .1) .0) in
         (cell-column (cells8 w′) _ _ u, cell-row (cells8 w′) _ _ u)
 
     pub cell-box-of : cellBox p′ w′ h′ (keptLabel p′ w′ h′ i) ≡ boxOf m a b (cellBox p w h (keptLabel p w h i))
     unfolding cellBox boxBy group cellLabel
     cell-box-of =
-        ap (λ (z : ℕ). boxBy (λ d. eqb (label ink′ (near (cells8 w′)) n′ d) z) (λ d. d % cells8 w′) (λ d. d / cells8 w′) (cells8 w′) (cells8 h′) n′) (sym label-is′)
-        ∙ ap₂ (λ (i j : ℕ). boxBy (group ink′ (near (cells8 w′)) n′ (f c)) (λ d. d % cells8 w′) (λ d. d / cells8 w′) i j n′) (wide-cells m W H p p′ same) (high-cells m W H p p′ same)
-        ∙ box-pair pair (λ d. placeOf m a b (d % a) (d / a) .0) (λ d. placeOf m a b (d % a) (d / a) .1) (λ d. d % cells8 w′) (λ d. d / cells8 w′) (wideOf m a b) (highOf m a b)
-        c c-lt (group-self ink (near a) n c) (λ d s t. let u = in-a d s in place-within m a b (d % a) (d / a) (u .0) (u .1)) (λ d s t. to-at d s)
+        ap (λ (z : ℕ). boxBy (λ d. eqb (label ink′ (near (cells8 w′)) n′ d) z) (λ d. d % cells8 w′) (λ d. d / cells8 w′) (cells8 w′)
+        (cells8 h′) n′) (sym label-is′)
+        ∙ ap₂ (λ (i j : ℕ). boxBy (group ink′ (near (cells8 w′)) n′ (f c)) (λ d. d % cells8 w′) (λ d. d / cells8 w′) i j n′)
+        (wide-cells m W H p p′ same) (high-cells m W H p p′ same)
+        ∙ box-pair pair (λ d. placeOf m a b (d % a) (d / a) .0) (λ d. placeOf m a b (d % a) (d / a) .1) (λ d. d % cells8 w′)
+        (λ d. d / cells8 w′) (wideOf m a b) (highOf m a b)
+        c c-lt (group-self ink (near a) n c) (λ d s t. let u = in-a d s in place-within m a b (d % a) (d / a) (u .0) (u .1))
+        (λ d s t. to-at d s)
         ∙ box-place q n c c-lt (group-self ink (near a) n c) m a b (λ d. d % a) (λ d. d / a) (λ d s t. in-a d s)
         ∙ ap (λ (z : ℕ). boxOf m a b (boxBy (λ d. eqb (label ink (near a) n d) z) (λ d. d % a) (λ d. d / a) a b n)) label-is
       where
@@ -193,17 +210,21 @@ unfolding regionBox finerBox cellBox
 region-finer p W H l posW posH =
     box≡ _ _ refl refl
     (clip (highest (λ c. eqb (cellLabel p (16 * W) (16 * H) c) l) (λ c. c % cells8 (16 * W)) (cellsOf (16 * W) (16 * H))) W
-    (highest-le (λ c. eqb (cellLabel p (16 * W) (16 * H) c) l) (λ c. c % cells8 (16 * W)) (cells8 (16 * W)) (cellsOf (16 * W) (16 * H)) (λ c s. column-lt (cells8 (16 * W)) (cells8 (16 * H)) c s (omega arith))))
+    (highest-le (λ c. eqb (cellLabel p (16 * W) (16 * H) c) l) (λ c. c % cells8 (16 * W)) (cells8 (16 * W)) (cellsOf (16 * W) (16 * H))
+    (λ c s. column-lt (cells8 (16 * W)) (cells8 (16 * H)) c s (omega arith))))
     (clip (highest (λ c. eqb (cellLabel p (16 * W) (16 * H) c) l) (λ c. c / cells8 (16 * W)) (cellsOf (16 * W) (16 * H))) H
-    (highest-le (λ c. eqb (cellLabel p (16 * W) (16 * H) c) l) (λ c. c / cells8 (16 * W)) (cells8 (16 * H)) (cellsOf (16 * W) (16 * H)) (λ c s. row-lt (cells8 (16 * W)) (cells8 (16 * H)) c s (omega arith))))
+    (highest-le (λ c. eqb (cellLabel p (16 * W) (16 * H) c) l) (λ c. c / cells8 (16 * W)) (cells8 (16 * H)) (cellsOf (16 * W) (16 * H))
+    (λ c s. row-lt (cells8 (16 * W)) (cells8 (16 * H)) c s (omega arith))))
   where
     clip : (x W : ℕ) → x ≤ cells8 (16 * W) → min (8 * x) (16 * W) ≡ 8 * x
     clip x W h = omega arith
 
-module _ (m : Move) (W H : ℕ) (posW : 0 < W) (posH : 0 < H) (p p′ : Plane) (same : Alike (wideOf m (16 * W) (16 * H)) (highOf m (16 * W) (16 * H)) p′ (moved m (16 * W) (16 * H) p))
+module _ (m : Move) (W H : ℕ) (posW : 0 < W) (posH : 0 < H) (p p′ : Plane)
+    (same : Alike (wideOf m (16 * W) (16 * H)) (highOf m (16 * W) (16 * H)) p′ (moved m (16 * W) (16 * H) p))
     (untied : Untied (groupSize p (16 * W) (16 * H)) (groupsOf p (16 * W) (16 * H))) (i : ℕ) (l : i < keptCount p (16 * W) (16 * H)) where
   -- the moved box, in pixels
-  pub box-of : regionBox p′ (wideOf m (16 * W) (16 * H)) (highOf m (16 * W) (16 * H)) (keptLabel p′ (wideOf m (16 * W) (16 * H)) (highOf m (16 * W) (16 * H)) i)
+  pub box-of : regionBox p′ (wideOf m (16 * W) (16 * H)) (highOf m (16 * W) (16 * H))
+      (keptLabel p′ (wideOf m (16 * W) (16 * H)) (highOf m (16 * W) (16 * H)) i)
       ≡ boxOf m (16 * W) (16 * H) (regionBox p (16 * W) (16 * H) (keptLabel p (16 * W) (16 * H) i))
   box-of =
       let s = sides-times m 16 W H in

@@ -58,7 +58,8 @@ module _ (want : ℕ → Bool) (ahead : ℕ → ℕ → Bool) (m : ℕ) where
         go (no q) (no d) = absurd (clash at-a (least-before p m a (omega arith)))
         go (no q) (yes d) =
             let t : p (least p m) ≡ true = ⊎-elim (λ x. x) (λ x. absurd (omega (arith, least-end′ x))) (which (p (least p m))) in
-            place-one (least p m) a (omega arith) h (and-left (want (least p m)) _ t) w (eqb-true _ _ (and-right (want (least p m)) (eqb (place want ahead m (least p m)) i) t) ∙ sym e)
+            place-one (least p m) a (omega arith) h (and-left (want (least p m)) _ t) w
+            (eqb-true _ _ (and-right (want (least p m)) (eqb (place want ahead m (least p m)) i) t) ∙ sym e)
           where
             least-end′ : p (least p m) ≡ false → least p m ≡ m
             least-end′ x = least-end p m x
@@ -66,7 +67,9 @@ module _ (want : ℕ → Bool) (ahead : ℕ → ℕ → Bool) (m : ℕ) where
     -- the first of all has place 0
     pub first-place : (a : ℕ) → First (λ b. true) a → place want ahead m a ≡ 0
     unfolding place
-    first-place a f = count-none (λ c. want c && ahead c a) m (λ c b. ⊎-elim (λ t. absurd (clash (and-right (want c) (ahead c a) t) (f .first c b (and-left (want c) (ahead c a) t) refl))) (λ t. t) (which (want c && ahead c a)))
+    first-place a f = count-none (λ c. want c && ahead c a) m
+        (λ c b. ⊎-elim (λ t. absurd (clash (and-right (want c) (ahead c a) t) (f .first c b (and-left (want c) (ahead c a) t) refl)))
+        (λ t. t) (which (want c && ahead c a)))
 
     -- the first of those behind `p` has the next place
     pub next-place : (p a : ℕ) → p < m → want p ≡ true → First (λ b. ahead p b) a → place want ahead m a ≡ suc (place want ahead m p)
@@ -77,7 +80,8 @@ module _ (want : ℕ → Bool) (ahead : ℕ → ℕ → Bool) (m : ℕ) where
         (both (want p) (ahead p a) w (f .meets))
         (λ c d n. bool-ext (want c && ahead c p) (want c && ahead c a)
         (λ t. both (want c) (ahead c a) (and-left (want c) (ahead c p) t) (o .trans c p a (and-right (want c) (ahead c p) t) (f .meets)))
-        (λ t. both (want c) (ahead c p) (and-left (want c) (ahead c a) t) (between c d n (and-left (want c) (ahead c a) t) (and-right (want c) (ahead c a) t))))
+        (λ t. both (want c) (ahead c p) (and-left (want c) (ahead c a) t)
+        (between c d n (and-left (want c) (ahead c a) t) (and-right (want c) (ahead c a) t))))
       where
         between : (c : ℕ) → c < m → (c ≡ p → ⊥) → want c ≡ true → ahead c a ≡ true → ahead c p ≡ true
         between c d n u t = go (which (ahead c p)) (which (ahead p c))
@@ -88,13 +92,15 @@ module _ (want : ℕ → Bool) (ahead : ℕ → ℕ → Bool) (m : ℕ) where
             go (inr x) (inr y) = absurd (n (o .total c p x y))
 
     -- where none is behind `p`, `p` is the last
-    pub last-place : (p : ℕ) → p < m → want p ≡ true → ((b : ℕ) → b < m → want b ≡ true → ahead p b ≡ false) → count want m ≡ suc (place want ahead m p)
+    pub last-place : (p : ℕ) → p < m → want p ≡ true → ((b : ℕ) → b < m → want b ≡ true → ahead p b ≡ false)
+        → count want m ≡ suc (place want ahead m p)
     unfolding place
     last-place p h w f =
         count-add (λ c. want c && ahead c p) want p m h
         (⊎-elim (λ e. absurd (clash (and-right (want p) (ahead p p) e) (o .irr p))) (λ e. e) (which (want p && ahead p p)))
         w
-        (λ c d n. bool-ext (want c && ahead c p) (want c) (λ t. and-left (want c) (ahead c p) t) (λ t. both (want c) (ahead c p) t (go c n (f c d t) (which (ahead c p)))))
+        (λ c d n. bool-ext (want c && ahead c p) (want c) (λ t. and-left (want c) (ahead c p) t)
+        (λ t. both (want c) (ahead c p) t (go c n (f c d t) (which (ahead c p)))))
       where
         go : (c : ℕ) → (c ≡ p → ⊥) → ahead p c ≡ false → (ahead c p ≡ true) ⊎ (ahead c p ≡ false) → ahead c p ≡ true
         go c n y (inl x) = x

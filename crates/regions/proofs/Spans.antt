@@ -1,5 +1,5 @@
--- The loop over the cells that makes the box of a label, with the cell's column and row counted beside it (Spanning), and the region of a label from
--- its box. Assumes nothing.
+-- The loop over the cells that makes the box of a label, with the cell's column and row counted beside it (Spanning), and the region of a
+-- label from its box. Assumes nothing.
 use Rattle.regions.specs.declared.answer.Region.{Region}
 use mathlib.Core.Bool.{false, true}
 use mathlib.Core.List.{List}

@@ -6,7 +6,8 @@ use Rattle.laws.specs.Plane.{Plane}
 use Rattle.laws.specs.Move.{Box}
 use Rattle.regions.specs.Cells.{cells8, cellsOf, cellLabel}
 
--- The least value of `f` at the numbers below `k` that meet `p`, and `d` where that is less; one more than the greatest, and 0 where none meets it.
+-- The least value of `f` at the numbers below `k` that meet `p`, and `d` where that is less; one more than the greatest, and 0 where none
+-- meets it.
 unfoldable pub lowest : (ℕ → Bool) → (ℕ → ℕ) → ℕ → ℕ → ℕ
 lowest p f d zero = d
 lowest p f d (suc k) = cond (p k) (min (lowest p f d k) (f k)) (lowest p f d k)

@@ -1,5 +1,5 @@
--- The picture door, as document 01 has it under "Region" and "Doors and their checks": its answer, and what it leaves in the lent lists. `s` holds the
--- picture's bytes, w and h are its sides. Definitions only. Assumes nothing.
+-- The picture door, as document 01 has it under "Region" and "Doors and their checks": its answer, and what it leaves in the lent lists.
+-- `s` holds the picture's bytes, w and h are its sides. Definitions only. Assumes nothing.
 use mathlib.Core.Bool.{Bool, true, false, cond, _&&_, _||_}
 use mathlib.Core.List.{List, [], _∷_}
 use mathlib.Core.Path.{_≡_}
@@ -31,8 +31,8 @@ checkPicture w h bytes rest =
     (orRefuse (eqb bytes (w * h)) 2
     rest))
 
--- 3: a lent grid shorter than its cells, or the stack shorter than the region cells. 0 is no refusal. Refusal 4, a push that finds the stack full, is no
--- number of this chain: with as many places on the stack as there are region cells no push finds it full.
+-- 3: a lent grid shorter than its cells, or the stack shorter than the region cells. 0 is no refusal. Refusal 4, a push that finds the
+-- stack full, is no number of this chain: with as many places on the stack as there are region cells no push finds it full.
 abbrev pub checkGrids : ℕ → ℕ → ℕ → ℕ → ℕ → ℕ → ℕ
 checkGrids w h bytes grid labels stack =
     checkPicture w h bytes

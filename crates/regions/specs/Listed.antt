@@ -1,4 +1,5 @@
--- Sizes, boxes and kept regions by a list of labels, as the code reads them: `labels` holds the labels of a grid of `ch` rows of `cw` cells, w and h are the
+-- Sizes, boxes and kept regions by a list of labels, as the code reads them: `labels` holds the labels of a grid of `ch` rows of `cw`
+-- cells, w and h are the
 -- picture's sides. Definitions only. Assumes nothing.
 use mathlib.Core.Bool.{Bool, cond, false, true}
 use mathlib.Core.List.{List, [], _∷_}

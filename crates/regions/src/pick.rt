@@ -1,5 +1,5 @@
-// The groups that are kept: at least 16 cells, the first four by count, equal counts by lower label.
-// Each is the first behind the one before it, found in one pass over the counters.
+// The groups that are kept: at least 16 cells, the first four by count, equal counts by lower
+// label. Each is the first behind the one before it, found in one pass over the counters.
 ghost use mathlib.Core.Path.{_≡_};
 ghost use Prim.Native.Nat.{_<_, _≤_};
 ghost use lib.ListN.{length};

@@ -10,8 +10,8 @@ use crate::span::least;
 use crate::span::span_of;
 use crate::tally::tally;
 
-// The region of the label i + 1, of which `cells` is the number of cells, in a picture of `width` by
-// `height` pixels.
+// The region of the label i + 1, of which `cells` is the number of cells, in a picture of `width`
+// by `height` pixels.
 fn region_of(
     labels: &[u32],
     i: usize,

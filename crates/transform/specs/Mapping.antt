@@ -1,6 +1,5 @@
 -- The transform from module space to pixels, as document 01 has it under "Transform": eight f64 coefficients and three f64 lens numbers,
--- any
--- f32 corners. Definitions only. Assumes nothing.
+-- any f32 corners. Definitions only. Assumes nothing.
 use mathlib.Core.List.{List, [], _∷_}
 use mathlib.Core.Bool.{cond}
 use lib.Ieee.{Float, binary64, add, sub, mul, div, neg, lt, eq, ofBits}

@@ -1,6 +1,5 @@
 -- A reflective solver for the identities of ℤ as a commutative ring: `solve ρ e f refl : ⟦ e ⟧ ρ ≡ ⟦ f ⟧ ρ`, for expressions of `Expr` over
--- the
--- list ρ of numbers. Assumes nothing.
+-- the list ρ of numbers. Assumes nothing.
 use mathlib.Core.Path.{_≡_, refl, sym, _∙_, ap}
 use mathlib.Core.Bool.{Bool, true, false, _&&_}
 use mathlib.Core.List.{List, [], _∷_}

@@ -8,8 +8,8 @@ use Rattle.whole.specs.Quad.{quad, Far, OneTop}
 use Rattle.whole.specs.Moves.{pointOf, movedRound, Same}
 
 -- Two lists of points, the second with the moved points of the first, in whatever order and however often: the second's hull is the
--- first's,
--- moved, clockwise from its own start; and so is the quad, where one pair of vertices is farthest and at most one vertex on each side of it
+-- first's, moved, clockwise from its own start; and so is the quad, where one pair of vertices is farthest and at most one vertex on each
+-- side of it
 pub record OutlineMoved (m : Move) (w h : ℕ) (P Q : List Pt) : Type 0 where
   pub hulls : Rot (movedRound m w h (hull P)) (hull Q)
   pub quads : (a b : Pt) → Far (hull P) a b → OneTop (hull P) a b → OneTop (hull P) b a

@@ -23,7 +23,8 @@ cells-of-requires-2 c κs = search needs
 sharp-requires : tie.Need-sharp-requires
 sharp-requires c κs =
     let k = c .before .before .before .before .before .before .before .before .before .level-cells in
-    let p = c .before .before .before .before .before .before .before .before .before .before .before .before .before .before .before .before in
+    let p = c .before .before .before .before .before .before .before .before .before .before .before .before .before .before .before
+    .before in
     let a = p .args in
     let ew = c .before .before .before .before .cells-of .ensures in
     let eh = c .before .before .before .cells-of2 .ensures in
@@ -44,9 +45,11 @@ sharp-requires c κs =
 
 fill-passes-requires : tie.Need-fill-passes-requires
 fill-passes-requires c κs =
-    let k = c .before .before .before .before .before .before .before .before .before .before .before .before .before .before .before .before .before .before .level-cells in
+    let k = c .before .before .before .before .before .before .before .before .before .before .before .before .before .before .before
+    .before .before .before .level-cells in
     let s = c .before .before .before .before .before .before .before .before .sharp in
-    let p = c .before .before .before .before .before .before .before .before .before .before .before .before .before .before .before .before .before .before .before .before .before .before .before .before .before in
+    let p = c .before .before .before .before .before .before .before .before .before .before .before .before .before .before .before
+    .before .before .before .before .before .before .before .before .before .before in
     let ew = c .before .before .before .before .before .before .before .before .before .before .before .before .before .cells-of .ensures in
     let eh = c .before .before .before .before .before .before .before .before .before .before .before .before .cells-of2 .ensures in
     let q = p .pre .0 in
@@ -68,10 +71,14 @@ returns : tie.Need-returns
 returns c =
     let f = c .before .before .before .before .fill-passes in
     let s = c .before .before .before .before .before .before .before .before .before .before .before .before .before .sharp in
-    let k = c .before .before .before .before .before .before .before .before .before .before .before .before .before .before .before .before .before .before .before .before .before .before .before .level-cells in
-    let a = c .before .before .before .before .before .before .before .before .before .before .before .before .before .before .before .before .before .before .before .before .before .before .before .before .before .before .before .before .before .before .args in
-    let ew = c .before .before .before .before .before .before .before .before .before .before .before .before .before .before .before .before .before .before .cells-of .ensures in
-    let eh = c .before .before .before .before .before .before .before .before .before .before .before .before .before .before .before .before .before .cells-of2 .ensures in
+    let k = c .before .before .before .before .before .before .before .before .before .before .before .before .before .before .before
+    .before .before .before .before .before .before .before .before .level-cells in
+    let a = c .before .before .before .before .before .before .before .before .before .before .before .before .before .before .before
+    .before .before .before .before .before .before .before .before .before .before .before .before .before .before .before .args in
+    let ew = c .before .before .before .before .before .before .before .before .before .before .before .before .before .before .before
+    .before .before .before .cells-of .ensures in
+    let eh = c .before .before .before .before .before .before .before .before .before .before .before .before .before .before .before
+    .before .before .cells-of2 .ensures in
     let w = cells (a .w) in
     let h = cells (a .h) in
     let d = dark (plane (a .w) (now (a .s))) (a .w) (a .h) in
@@ -84,7 +91,8 @@ returns c =
     let past₁ : drop (w * h) (s .last .0) ≡ drop (w * h) ds = rw (ew, eh) at (s .ensures .1 .0) in
     let past₂ : drop (w * h) (f .last .1 .0) ≡ drop (w * h) (s .last .0) = rw (ew, eh) at (f .ensures .1) in
     let past₃ : drop (w * h) (s .last .1 .0) ≡ drop (w * h) ls = rw (ew, eh) at (s .ensures .1 .1) in (
-      last ∙ level-drawn w h d l ds (now (a .darks)) ls (now (a .lights)) (now (a .grid)) grid (k .ensures .0) (k .ensures .1) over ∙ rw level-is,
+      last ∙ level-drawn w h d l ds (now (a .darks)) ls (now (a .lights)) (now (a .grid)) grid (k .ensures .0) (k .ensures .1) over
+          ∙ rw level-is,
       (
         past₂ ∙ past₁ ∙ ap (drop (w * h)) (k .ensures .0) ∙ drop-written (w * h) (rowwise w d) (now (a .darks)),
         past₃ ∙ ap (drop (w * h)) (k .ensures .1) ∙ drop-written (w * h) (rowwise w l) (now (a .lights)),

@@ -1,9 +1,9 @@
-use Rattle.math.proofs.Doors.{zeros-length, solve-low, solve-high, solve-matrix, solve-right, solve-pass, square8, zeros-cells}
+use Rattle.math.proofs.Doors.{solve-low, solve-high, solve-matrix, solve-right, solve-pass, square8}
 use Rattle.math.specs.Answers.{solutionSaid}
 use lib.ListN.{length}
 use native.Mathlib.Omega.{arith}
 use Prim.Native.Nat.{_≤_, _*_}
-use mathlib.Core.Path.{_≡_, sym, ap, _∙_}
+use mathlib.Core.Path.{_≡_, ap, _∙_}
 use borrow.Author.Needs.{needs}
 use Rattle.math.proofs.solve.Statement.{statement}
 use Rattle.math.proofs.solve.Tie as tie
@@ -23,8 +23,8 @@ returns-2 c =
     let s = c .before .before .before .before .before .args in
     c .refused2 .ensures ∙ solve-high (s .n) (s .a .now) (s .b .now) (c .before .if2 .taken)
 
-mul-cells : tie.Need-mul-cells
-mul-cells c =
+mul-if3 : tie.Need-mul-if3
+mul-if3 c =
     let n = c .before .before .before .before .args .n in
     let h : n ≤ 8 = omega arith in
     let z = square8 n h in
@@ -50,44 +50,17 @@ returns-4 c =
     let h : s .n ≤ 8 = omega arith in
     c .refused4 .ensures ∙ solve-right (s .n) (s .a .now) (s .b .now) l h (c .before .if4 .taken)
 
-array-borrow-prefix-m : tie.Need-array-borrow-prefix-m
-array-borrow-prefix-m c =
-    let n = c .before .before .before .before .before .before .args .n in
-    let h : n ≤ 8 = omega arith in
-    square8 n h
-
-slice-aggregate-run-copy : tie.Need-slice-aggregate-run-copy
-slice-aggregate-run-copy c =
-    let n = c .before .before .before .before .before .before .before .args .n in
-    let h : n ≤ 8 = omega arith in
-    zeros-cells n h
-
-array-borrow-prefix-v : tie.Need-array-borrow-prefix-v
-array-borrow-prefix-v c = search needs
-
-slice-aggregate-run-copy-2 : tie.Need-slice-aggregate-run-copy-2
-slice-aggregate-run-copy-2 c =
-    let n = c .before .before .before .before .before .before .before .before .args .n in
-    let h : n ≤ 8 = omega arith in
-    zeros-length n 8 h
-
-run-copy-requires : tie.Need-run-copy-requires
-run-copy-requires c κs =
-    let s = c .before .before .before .before .before .before .before .before .args in
-    let h : s .n ≤ 8 = omega arith in
-    let a : length (s .a .now) ≡ s .n * s .n = search needs in
-    let b : length (s .b .now) ≡ s .n = search needs in
-    (h, (a, (b, (sym (zeros-cells (s .n) h), sym (zeros-length (s .n) 8 h)))))
+on-copies-requires : tie.Need-on-copies-requires
+on-copies-requires c κs = search needs
 
 returns-5 : tie.Need-returns-5
 returns-5 c =
-    let w = c .before .before in
-    let s = w .before .before .before .before .before .before .before .before .before .args in
+    let s = c .before .before .before .before .before .before .before .args in
     let l : 1 ≤ s .n = omega arith in
     let h : s .n ≤ 8 = omega arith in
     let a : length (s .a .now) ≡ s .n * s .n = search needs in
     let b : length (s .b .now) ≡ s .n = search needs in
-    ap solutionSaid (w .run-copy .ensures) ∙ solve-pass (s .n) (s .a .now) (s .b .now) l h a b
+    ap solutionSaid (c .on-copies .ensures) ∙ solve-pass (s .n) (s .a .now) (s .b .now) l h a b
 
 pub solve-spec : {M : Type 1} → statement M
 solve-spec =
@@ -97,14 +70,10 @@ solve-spec =
     returns
     refused-requires-2
     returns-2
-    mul-cells
+    mul-if3
     refused-requires-3
     returns-3
     refused-requires-4
     returns-4
-    array-borrow-prefix-m
-    slice-aggregate-run-copy
-    array-borrow-prefix-v
-    slice-aggregate-run-copy-2
-    run-copy-requires
+    on-copies-requires
     returns-5)

@@ -28,16 +28,35 @@ returns-3 c =
 
 returns-4 : tie.Need-returns-4
 returns-4 c =
-    let a = c .before .before .before .before .args in
-    (simp (le-leb 1 (a .w) (omega arith), le-leb (a .w) 4096 (omega arith), le-leb 1 (a .h) (omega arith), lt-leb (a .h) 4096 (c .if4 .taken)), λ e. absurd (omega arith))
+    let a = c .before .before .before .before .args in (
+      simp (
+        le-leb 1 (a .w) (omega arith),
+        le-leb (a .w) 4096 (omega arith),
+        le-leb 1 (a .h) (omega arith),
+        lt-leb (a .h) 4096 (c .if4 .taken),
+      ),
+      λ e. absurd (omega arith),
+    )
 
 mul-if5 : tie.Need-mul-if5
-mul-if5 c = omega (arith, mul-le-mul {n₁ = c .before .before .before .before .args .w} {m₁ = c .before .before .before .before .args .h} {n₂ = 4096} {m₂ = 4096} (omega arith) (omega arith))
+mul-if5 c = omega (
+  arith,
+  mul-le-mul {n₁ = c .before .before .before .before .args .w} {m₁ = c .before .before .before .before .args .h} {n₂ = 4096} {m₂ = 4096}
+      (omega arith) (omega arith),
+)
 
 returns-5 : tie.Need-returns-5
 returns-5 c =
-    let a = c .before .before .before .before .before .args in
-    (simp (le-leb 1 (a .w) (omega arith), le-leb (a .w) 4096 (omega arith), le-leb 1 (a .h) (omega arith), le-leb (a .h) 4096 (omega arith), ne-eqb (a .bytes) (a .w * a .h) (c .if5 .taken)), λ e. absurd (omega arith))
+    let a = c .before .before .before .before .before .args in (
+      simp (
+        le-leb 1 (a .w) (omega arith),
+        le-leb (a .w) 4096 (omega arith),
+        le-leb 1 (a .h) (omega arith),
+        le-leb (a .h) 4096 (omega arith),
+        ne-eqb (a .bytes) (a .w * a .h) (c .if5 .taken),
+      ),
+      λ e. absurd (omega arith),
+    )
 
 cells-of-requires : tie.Need-cells-of-requires
 cells-of-requires c κs = search needs
@@ -46,13 +65,26 @@ cells-of-requires-2 : tie.Need-cells-of-requires-2
 cells-of-requires-2 c κs = search needs
 
 mul-if6 : tie.Need-mul-if6
-mul-if6 c = omega (arith, mul-le-mul {n₁ = c .before .cells-of .result} {m₁ = c .cells-of2 .result} {n₂ = 256} {m₂ = 256} (omega arith) (omega arith))
+mul-if6 c = omega (
+  arith,
+  mul-le-mul {n₁ = c .before .cells-of .result} {m₁ = c .cells-of2 .result} {n₂ = 256} {m₂ = 256} (omega arith) (omega arith),
+)
 
 returns-6 : tie.Need-returns-6
 returns-6 c =
     let a = c .before .before .before .before .before .before .before .before .args in
-    let grid : a .grid < cells (a .w) * cells (a .h) = rw (← c .before .before .cells-of .ensures, ← c .before .cells-of2 .ensures) (c .if6 .taken) in
-    (simp (le-leb 1 (a .w) (omega arith), le-leb (a .w) 4096 (omega arith), le-leb 1 (a .h) (omega arith), le-leb (a .h) 4096 (omega arith), eq-eqb (a .bytes) (a .w * a .h) (omega arith), lt-leb (cells (a .w) * cells (a .h)) (a .grid) grid), λ e. absurd (omega arith))
+    let grid : a .grid < cells (a .w) * cells (a .h) =
+    rw (← c .before .before .cells-of .ensures, ← c .before .cells-of2 .ensures) (c .if6 .taken) in (
+      simp (
+        le-leb 1 (a .w) (omega arith),
+        le-leb (a .w) 4096 (omega arith),
+        le-leb 1 (a .h) (omega arith),
+        le-leb (a .h) 4096 (omega arith),
+        eq-eqb (a .bytes) (a .w * a .h) (omega arith),
+        lt-leb (cells (a .w) * cells (a .h)) (a .grid) grid,
+      ),
+      λ e. absurd (omega arith),
+    )
 
 region-cells-requires : tie.Need-region-cells-requires
 region-cells-requires c κs = search needs
@@ -61,30 +93,78 @@ region-cells-requires-2 : tie.Need-region-cells-requires-2
 region-cells-requires-2 c κs = search needs
 
 mul-n : tie.Need-mul-n
-mul-n c = omega (arith, mul-le-mul {n₁ = c .before .region-cells .result} {m₁ = c .region-cells2 .result} {n₂ = 512} {m₂ = 512} (omega arith) (omega arith))
+mul-n c = omega (
+  arith,
+  mul-le-mul {n₁ = c .before .region-cells .result} {m₁ = c .region-cells2 .result} {n₂ = 512} {m₂ = 512} (omega arith) (omega arith),
+)
 
 returns-7 : tie.Need-returns-7
 returns-7 c =
     let a = c .before .before .before .before .before .before .before .before .before .before .before .args in
-    let grid : cells (a .w) * cells (a .h) ≤ a .grid = rw (← c .before .before .before .before .before .cells-of .ensures, ← c .before .before .before .before .cells-of2 .ensures) (c .before .before .before .if6 .left) in
-    let label : a .labels < cellsOf (a .w) (a .h) = rw (← c .before .before .region-cells .ensures, ← c .before .region-cells2 .ensures) (c .if7 .taken) in
-    (simp (le-leb 1 (a .w) (omega arith), le-leb (a .w) 4096 (omega arith), le-leb 1 (a .h) (omega arith), le-leb (a .h) 4096 (omega arith), eq-eqb (a .bytes) (a .w * a .h) (omega arith), le-leb (cells (a .w) * cells (a .h)) (a .grid) grid, lt-leb (cellsOf (a .w) (a .h)) (a .labels) label), λ e. absurd (omega arith))
+    let grid : cells (a .w) * cells (a .h) ≤ a .grid =
+    rw (← c .before .before .before .before .before .cells-of .ensures, ← c .before .before .before .before .cells-of2 .ensures)
+    (c .before .before .before .if6 .left) in
+    let label : a .labels < cellsOf (a .w) (a .h) =
+    rw (← c .before .before .region-cells .ensures, ← c .before .region-cells2 .ensures) (c .if7 .taken) in (
+      simp (
+        le-leb 1 (a .w) (omega arith),
+        le-leb (a .w) 4096 (omega arith),
+        le-leb 1 (a .h) (omega arith),
+        le-leb (a .h) 4096 (omega arith),
+        eq-eqb (a .bytes) (a .w * a .h) (omega arith),
+        le-leb (cells (a .w) * cells (a .h)) (a .grid) grid,
+        lt-leb (cellsOf (a .w) (a .h)) (a .labels) label,
+      ),
+      λ e. absurd (omega arith),
+    )
 
 returns-8 : tie.Need-returns-8
 returns-8 c =
     let a = c .before .before .before .before .before .before .before .before .before .before .before .before .args in
-    let grid : cells (a .w) * cells (a .h) ≤ a .grid = rw (← c .before .before .before .before .before .before .cells-of .ensures, ← c .before .before .before .before .before .cells-of2 .ensures) (c .before .before .before .before .if6 .left) in
-    let label : cellsOf (a .w) (a .h) ≤ a .labels = rw (← c .before .before .before .region-cells .ensures, ← c .before .before .region-cells2 .ensures) (c .before .if7 .left) in
-    let room : a .stack < cellsOf (a .w) (a .h) = rw (← c .before .before .before .region-cells .ensures, ← c .before .before .region-cells2 .ensures) (c .if8 .taken) in
-    (simp (le-leb 1 (a .w) (omega arith), le-leb (a .w) 4096 (omega arith), le-leb 1 (a .h) (omega arith), le-leb (a .h) 4096 (omega arith), eq-eqb (a .bytes) (a .w * a .h) (omega arith), le-leb (cells (a .w) * cells (a .h)) (a .grid) grid, le-leb (cellsOf (a .w) (a .h)) (a .labels) label, lt-leb (cellsOf (a .w) (a .h)) (a .stack) room), λ e. absurd (omega arith))
+    let grid : cells (a .w) * cells (a .h) ≤ a .grid =
+    rw (
+      ← c .before .before .before .before .before .before .cells-of .ensures,
+      ← c .before .before .before .before .before .cells-of2 .ensures,
+    ) (c .before .before .before .before .if6 .left) in
+    let label : cellsOf (a .w) (a .h) ≤ a .labels =
+    rw (← c .before .before .before .region-cells .ensures, ← c .before .before .region-cells2 .ensures) (c .before .if7 .left) in
+    let room : a .stack < cellsOf (a .w) (a .h) =
+    rw (← c .before .before .before .region-cells .ensures, ← c .before .before .region-cells2 .ensures) (c .if8 .taken) in (
+      simp (
+        le-leb 1 (a .w) (omega arith),
+        le-leb (a .w) 4096 (omega arith),
+        le-leb 1 (a .h) (omega arith),
+        le-leb (a .h) 4096 (omega arith),
+        eq-eqb (a .bytes) (a .w * a .h) (omega arith),
+        le-leb (cells (a .w) * cells (a .h)) (a .grid) grid,
+        le-leb (cellsOf (a .w) (a .h)) (a .labels) label,
+        lt-leb (cellsOf (a .w) (a .h)) (a .stack) room,
+      ),
+      λ e. absurd (omega arith),
+    )
 
 returns-9 : tie.Need-returns-9
 returns-9 c =
     let a = c .before .before .before .before .before .before .before .before .before .before .before .before .args in
-    let grid : cells (a .w) * cells (a .h) ≤ a .grid = rw (← c .before .before .before .before .before .before .cells-of .ensures, ← c .before .before .before .before .before .cells-of2 .ensures) (c .before .before .before .before .if6 .left) in
-    let label : cellsOf (a .w) (a .h) ≤ a .labels = rw (← c .before .before .before .region-cells .ensures, ← c .before .before .region-cells2 .ensures) (c .before .if7 .left) in
-    let room : cellsOf (a .w) (a .h) ≤ a .stack = rw (← c .before .before .before .region-cells .ensures, ← c .before .before .region-cells2 .ensures) (c .if8 .left) in (
-      simp (le-leb 1 (a .w) (omega arith), le-leb (a .w) 4096 (omega arith), le-leb 1 (a .h) (omega arith), le-leb (a .h) 4096 (omega arith), eq-eqb (a .bytes) (a .w * a .h) (omega arith), le-leb (cells (a .w) * cells (a .h)) (a .grid) grid, le-leb (cellsOf (a .w) (a .h)) (a .labels) label, le-leb (cellsOf (a .w) (a .h)) (a .stack) room),
+    let grid : cells (a .w) * cells (a .h) ≤ a .grid =
+    rw (
+      ← c .before .before .before .before .before .before .cells-of .ensures,
+      ← c .before .before .before .before .before .cells-of2 .ensures,
+    ) (c .before .before .before .before .if6 .left) in
+    let label : cellsOf (a .w) (a .h) ≤ a .labels =
+    rw (← c .before .before .before .region-cells .ensures, ← c .before .before .region-cells2 .ensures) (c .before .if7 .left) in
+    let room : cellsOf (a .w) (a .h) ≤ a .stack =
+    rw (← c .before .before .before .region-cells .ensures, ← c .before .before .region-cells2 .ensures) (c .if8 .left) in (
+      simp (
+        le-leb 1 (a .w) (omega arith),
+        le-leb (a .w) 4096 (omega arith),
+        le-leb 1 (a .h) (omega arith),
+        le-leb (a .h) 4096 (omega arith),
+        eq-eqb (a .bytes) (a .w * a .h) (omega arith),
+        le-leb (cells (a .w) * cells (a .h)) (a .grid) grid,
+        le-leb (cellsOf (a .w) (a .h)) (a .labels) label,
+        le-leb (cellsOf (a .w) (a .h)) (a .stack) room,
+      ),
       λ e. record {
         w-low = omega arith;
         w-high = omega arith;

@@ -21,7 +21,10 @@ region-cells-requires-2 : tie.Need-region-cells-requires-2
 region-cells-requires-2 c κs = search needs
 
 mul-n : tie.Need-mul-n
-mul-n c = omega (arith, mul-le-mul {n₁ = c .region-cells2 .result} {m₁ = c .before .region-cells .result} {n₂ = 512} {m₂ = 512} (omega arith) (omega arith))
+mul-n c = omega (
+  arith,
+  mul-le-mul {n₁ = c .region-cells2 .result} {m₁ = c .before .region-cells .result} {n₂ = 512} {m₂ = 512} (omega arith) (omega arith),
+)
 
 slice-aggregate-regions : tie.Need-slice-aggregate-regions
 slice-aggregate-regions c =
@@ -38,7 +41,8 @@ slice-aggregate-regions-2 : tie.Need-slice-aggregate-regions-2
 slice-aggregate-regions-2 c =
     let p = c .before .before .before .before .before .before .before in
     let a = p .args in
-    sym (length-take-le (a .v) (now (a .stack)) (omega (arith, many-most (now (a .s)) (a .w) (a .h) (now (a .labels)) (a .v) (p .pre .1 .1) (p .pre .1 .0 .0), p .pre .1 .0)))
+    sym (length-take-le (a .v) (now (a .stack))
+    (omega (arith, many-most (now (a .s)) (a .w) (a .h) (now (a .labels)) (a .v) (p .pre .1 .1) (p .pre .1 .0 .0), p .pre .1 .0)))
 
 regions-requires : tie.Need-regions-requires
 regions-requires c κs =
@@ -71,7 +75,11 @@ returns c =
     let long = length-take-le (a .v) (now (a .stack)) (omega (arith, few, p .pre .1 .0)) in
     let r = c .before .before .regions in
     let is : r .result ≡ keptIn (take n (now (a .labels))) (a .v) (cells8 (a .w)) (cells8 (a .h)) (a .w) (a .h) =
-    rw (c .before .before .before .before .before .region-cells2 .ensures, c .before .before .before .before .before .before .region-cells .ensures, long) at (r .ensures) in (
+    rw (
+      c .before .before .before .before .before .region-cells2 .ensures,
+      c .before .before .before .before .before .before .region-cells .ensures,
+      long,
+    ) at (r .ensures) in (
       is ∙ regions-listed (plane (a .w) (now (a .s))) (a .w) (a .h) (take n (now (a .labels)))
           (labels-tab (now (a .s)) (a .w) (a .h) (now (a .labels)) (a .v) (p .pre .1 .1) (p .pre .1 .0 .0)) (p .pre .1 .1 .all),
       past-front n (a .v) (now (a .stack)) (r .last .1 .0) (omega arith) (r .kept .1 .0 ∙ long),

@@ -12,7 +12,8 @@ level-grid-requires c κs = search needs
 
 mark-cells-requires : tie.Need-mark-cells-requires
 mark-cells-requires c κs =
-    let p = c .before .before .before .before .before .before .before .before .before .before .before .before .before .before .before .before in
+    let p = c .before .before .before .before .before .before .before .before .before .before .before .before .before .before .before
+    .before in
     let g = c .before .before .before .before .before .before .before .before .level-grid in (
       levelled-of (now (p .args .grid)) (p .pre .0) (g .ensures .0) (rw (g .kept .1 .1 .1 .0) (p .pre .1 .0 .grids)),
       rw (g .kept .1 .1 .1 .1 .0) (p .pre .1 .1),
@@ -26,12 +27,15 @@ region-cells-requires-2 c κs = search needs
 
 label-all-requires : tie.Need-label-all-requires
 label-all-requires c κs =
-    let p = c .before .before .before .before .before .before .before .before .before .before .before .before .before .before .before .before .before .before .before .before .before .before .before in
+    let p = c .before .before .before .before .before .before .before .before .before .before .before .before .before .before .before
+    .before .before .before .before .before .before .before .before in
     let a = p .args in
     let q = p .pre .0 in
-    let g = c .before .before .before .before .before .before .before .before .before .before .before .before .before .before .before .level-grid in
+    let g = c .before .before .before .before .before .before .before .before .before .before .before .before .before .before .before
+    .level-grid in
     let m = c .before .before .before .before .before .before .mark-cells in
-    let all = mul-le-mul {n₁ = cells8 (a .h)} {m₁ = cells8 (a .w)} {n₂ = 512} {m₂ = 512} (omega (arith, q .h-high)) (omega (arith, q .w-high)) in
+    let all = mul-le-mul {n₁ = cells8 (a .h)} {m₁ = cells8 (a .w)} {n₂ = 512} {m₂ = 512} (omega (arith, q .h-high))
+    (omega (arith, q .w-high)) in
     rw (c .region-cells2 .ensures, c .before .region-cells .ensures)
     (rw (m .kept .1 .1 .1 .1 .0, g .kept .1 .1 .1 .1 .0) (p .pre .1 .1), all, omega (arith, q .w-low))
 
@@ -46,15 +50,20 @@ same-length-3 c = search needs
 
 returns : tie.Need-returns
 returns c =
-    let p = c .before .before .before .before .before .before .before .before .before .before .before .before .before .before .before .before .before .before .before .before .before .before .before .before .before .before .before .before in
+    let p = c .before .before .before .before .before .before .before .before .before .before .before .before .before .before .before
+    .before .before .before .before .before .before .before .before .before .before .before .before .before in
     let a = p .args in
-    let g = c .before .before .before .before .before .before .before .before .before .before .before .before .before .before .before .before .before .before .before .before .level-grid in
+    let g = c .before .before .before .before .before .before .before .before .before .before .before .before .before .before .before
+    .before .before .before .before .before .level-grid in
     let m = c .before .before .before .before .before .before .before .before .before .before .before .mark-cells in
     let l = c .before .before .before .before .label-all in (
       g .ensures .0,
-      mapped-of (now (a .s)) (a .w) (a .h) _ _ (now (a .labels)) (now (a .stack)) (g .last .1 .1 .1 .1 .0) (m .last .1 .1 .1 .1 .0) (g .last .1 .1 .1 .1 .1 .0)
-          (l .last .0) (l .last .1 .0) (c .before .before .before .before .before .before .region-cells .ensures) (c .before .before .before .before .before .region-cells2 .ensures) (g .ensures .1 .0) (g .ensures .1 .1)
-          (level-cells-few (a .w) (a .h)) (g .kept .1 .1 .1 .1 .0) (g .kept .1 .1 .1 .1 .1 .0) (m .ensures) (m .kept .1 .1 .1 .1 .0) (l .ensures),
+      mapped-of (now (a .s)) (a .w) (a .h) _ _ (now (a .labels)) (now (a .stack)) (g .last .1 .1 .1 .1 .0) (m .last .1 .1 .1 .1 .0)
+          (g .last .1 .1 .1 .1 .1 .0)
+          (l .last .0) (l .last .1 .0) (c .before .before .before .before .before .before .region-cells .ensures)
+          (c .before .before .before .before .before .region-cells2 .ensures) (g .ensures .1 .0) (g .ensures .1 .1)
+          (level-cells-few (a .w) (a .h)) (g .kept .1 .1 .1 .1 .0) (g .kept .1 .1 .1 .1 .1 .0) (m .ensures) (m .kept .1 .1 .1 .1 .0)
+          (l .ensures),
     )
 
 pub ink-map-spec : {M : Type 1} → statement M

@@ -27,7 +27,9 @@ returns c =
     let a = c .before .before .before .before .before .before .before .args in
     let k = c .before .before .check in
     let r = c .refusal .ensures in
-    let few : k .result ≤ 3 = rw (k .ensures .0) (check-few (a .w) (a .h) (length (now (a .s))) (length (now (a .grid))) (length (now (a .labels))) (length (now (a .stack)))) in
+    let few : k .result ≤ 3 =
+    rw (k .ensures .0) (check-few (a .w) (a .h) (length (now (a .s))) (length (now (a .grid))) (length (now (a .labels)))
+    (length (now (a .stack)))) in
     let not0 : eqb (k .result) 0 ≡ false = ne-eqb (k .result) 0 (c .before .if1 .taken) in
     let not4 : eqb (k .result) 4 ≡ false = ne-eqb (k .result) 4 (omega arith) in (
       r ∙ answer-refused (k .result) (keptRegions (plane (a .w) (now (a .s))) (a .w) (a .h)) (c .before .if1 .taken)
@@ -41,7 +43,12 @@ ink-map-requires c κs =
     let a = c .before .before .before .before .before .before .before .before .before .args in (
       record { w-low = p .w-low; w-high = p .w-high; h-low = p .h-low; h-high = p .h-high; count = p .count },
       (
-        record { grids = p .grids; first = le-trans (level-cells-few (a .w) (a .h)) (p .label); second = le-trans (level-cells-few (a .w) (a .h)) (p .room) },
+        record {
+          grids = p .grids;
+          first = le-trans (level-cells-few (a .w) (a .h)) (p .label);
+          second = le-trans
+              (level-cells-few (a .w) (a .h)) (p .room);
+        },
         p .label,
       ),
     )
@@ -66,7 +73,8 @@ same-length-3 c = search needs
 
 returns-2 : tie.Need-returns-2
 returns-2 c =
-    let p = c .before .before .before .before .before .before .before .before .before .before .before .before .before .before .check .ensures .1 (omega arith) in
+    let p = c .before .before .before .before .before .before .before .before .before .before .before .before .before .before .check
+    .ensures .1 (omega arith) in
     let i = c .before .before .before .before .before .before .before .before .before .ink-map in
     let f = mapped-full (i .ensures .1) (c .before .enum-told .given .1) in
     let r = c .refusal2 .ensures in
@@ -74,8 +82,10 @@ returns-2 c =
 
 count-regions-requires : tie.Need-count-regions-requires
 count-regions-requires c κs =
-    let p = c .before .before .before .before .before .before .before .before .before .before .before .before .before .before .before .before .check .ensures .1 (omega arith) in
-    let a = c .before .before .before .before .before .before .before .before .before .before .before .before .before .before .before .before .before .before .before .before .before .args in
+    let p = c .before .before .before .before .before .before .before .before .before .before .before .before .before .before .before
+    .before .check .ensures .1 (omega arith) in
+    let a = c .before .before .before .before .before .before .before .before .before .before .before .before .before .before .before
+    .before .before .before .before .before .before .args in
     let i = c .before .before .before .before .before .before .before .before .before .before .before .ink-map in
     let m = mapped-at (i .ensures .1) (c .before .before .before .v .given .1) in (
       record { w-low = p .w-low; w-high = p .w-high; h-low = p .h-low; h-high = p .h-high; count = p .count },
@@ -96,13 +106,17 @@ same-length-6 c = search needs
 
 returns-3 : tie.Need-returns-3
 returns-3 c =
-    let a = c .before .before .before .before .before .before .before .before .before .before .before .before .before .before .before .before .before .before .before .before .before .before .before .before .args in
-    let k = c .before .before .before .before .before .before .before .before .before .before .before .before .before .before .before .before .before .before .before .check in
+    let a = c .before .before .before .before .before .before .before .before .before .before .before .before .before .before .before
+    .before .before .before .before .before .before .before .before .before .args in
+    let k = c .before .before .before .before .before .before .before .before .before .before .before .before .before .before .before
+    .before .before .before .before .check in
     let i = c .before .before .before .before .before .before .before .before .before .before .before .before .before .before .ink-map in
     let m = mapped-at (i .ensures .1) (c .before .before .before .before .before .before .v .given .1) in
     let r = c .before .before .count-regions in
-    let passed : checkGrids (a .w) (a .h) (length (now (a .s))) (length (now (a .grid))) (length (now (a .labels))) (length (now (a .stack))) ≡ 0 =
-    sym (k .ensures .0) ∙ c .before .before .before .before .before .before .before .before .before .before .before .before .before .before .before .before .before .before .if1 .left in (
+    let passed : checkGrids (a .w) (a .h) (length (now (a .s))) (length (now (a .grid))) (length (now (a .labels)))
+    (length (now (a .stack))) ≡ 0 =
+    sym (k .ensures .0) ∙ c .before .before .before .before .before .before .before .before .before .before .before .before .before .before
+    .before .before .before .before .if1 .left in (
       rw (passed, r .ensures .0),
       (i .ensures .0, (m .0, r .ensures .1 ∙ m .2)),
     )

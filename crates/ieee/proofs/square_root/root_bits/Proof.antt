@@ -36,8 +36,8 @@ grows : (c : tie.In-loop Inv-loop μ-loop)
     → Grown (c .before .before .before .before .args .b) (c .before .loop .n * 4) (c .before .loop .k - 1) × (0 < c .before .loop .k)
 grows c = let a = c .before .before .before .before in grow _ _ _ (a .pre .0) (a .pre .1) (c .before .loop .inv) (c .loop-test .taken)
 
-nears : (c : tie.After-near-root Inv-loop μ-loop) → c .near-root .result ≤ 16777216
-nears c = subst (λ (z : ℕ). z ≤ 16777216) (sym (c .near-root .ensures))
+nears : (c : tie.After-quick-root Inv-loop μ-loop) → c .quick-root .result ≤ 16777216
+nears c = subst (λ (z : ℕ). z ≤ 16777216) (sym (c .quick-root .ensures))
     (near-24 _ (c .before .loop-test .left) (c .before .before .loop .inv .1) .1)
 
 digits-requires : tie.Need-digits-requires Inv-loop μ-loop
@@ -79,8 +79,8 @@ loop-again c = grows c .0
 mul-result : tie.Need-mul-result Inv-loop μ-loop
 mul-result c = omega arith
 
-near-root-requires : tie.Need-near-root-requires Inv-loop μ-loop
-near-root-requires c κs = c .before .loop .inv .1
+quick-root-requires : tie.Need-quick-root-requires Inv-loop μ-loop
+quick-root-requires c κs = c .before .loop .inv .1
 
 cast-result : tie.Need-cast-result Inv-loop μ-loop
 cast-result c = fits-le (nears c) (fits-lit tt)
@@ -92,7 +92,7 @@ returns : tie.Need-returns Inv-loop μ-loop
 returns c =
     let inv = c .before .before .loop .inv in
     let a = c .before .before .before .before .before in
-    root-pattern _ _ _ _ (a .pre .0) (a .pre .1) (inv .0) (c .before .loop-test .left) (inv .1) (inv .2) (c .near-root .ensures)
+    root-pattern _ _ _ _ (a .pre .0) (a .pre .1) (inv .0) (c .before .loop-test .left) (inv .1) (inv .2) (c .quick-root .ensures)
 
 pub root-bits-spec : {M : Type 1} → statement M
 root-bits-spec =
@@ -113,7 +113,7 @@ root-bits-spec =
     loop-less
     loop-again
     mul-result
-    near-root-requires
+    quick-root-requires
     cast-result
     add-result
     returns)

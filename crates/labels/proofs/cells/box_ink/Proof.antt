@@ -74,8 +74,11 @@ loop-again : tie.Need-loop-again Inv-loop μ-loop
 loop-again c =
     let at = c .before .before .before in
     let a = at .before .before .args in
-    let e = row-end (a .y0 + at .loop .j) (a .y0 + a .ly) (a .w) (omega arith) in
-    (omega arith, box-step (now (a .s)) (a .w) (a .x0) (a .y0) (a .lx) (at .loop .j) (a .t) (omega arith) (at .loop .inv .1) (c .row-ink .ensures .0))
+    let e = row-end (a .y0 + at .loop .j) (a .y0 + a .ly) (a .w) (omega arith) in (
+      omega arith,
+      box-step (now (a .s)) (a .w) (a .x0) (a .y0) (a .lx) (at .loop .j) (a .t) (omega arith) (at .loop .inv .1)
+          (c .row-ink .ensures .0),
+    )
 
 returns : tie.Need-returns Inv-loop μ-loop
 returns c =

@@ -26,7 +26,11 @@ shared-slice-read-t : tie.Need-shared-slice-read-t
 shared-slice-read-t c =
     let a = c .before .before .before .before .args in
     rw (c .before .cells-of .ensures)
-    (omega (arith, place-lt (a .cx / 2) (a .cy / 2) (cells (a .w)) (cells (a .h)) (omega arith) (omega arith), c .before .before .before .before .pre .0 .room))
+    (omega (
+      arith,
+      place-lt (a .cx / 2) (a .cy / 2) (cells (a .w)) (cells (a .h)) (omega arith) (omega arith),
+      c .before .before .before .before .pre .0 .room,
+    ))
 
 span-of-requires : tie.Need-span-of-requires
 span-of-requires c κs = search needs
@@ -43,7 +47,8 @@ mul-box-ink-2 c = search needs
 box-ink-requires : tie.Need-box-ink-requires
 box-ink-requires c κs =
     let p = c .before .before .before .before .before .before .before .before in
-    inside-cell (p .pre .0 .picture) (p .args .cx) (p .args .cy) (p .pre .1 .0) (p .pre .1 .1) (sym (c .before .if1 .taken) ∙ c .before .before .before .span-of .ensures)
+    inside-cell (p .pre .0 .picture) (p .args .cx) (p .args .cy) (p .pre .1 .0) (p .pre .1 .1)
+    (sym (c .before .if1 .taken) ∙ c .before .before .before .span-of .ensures)
     (sym (c .if2 .taken) ∙ c .before .before .span-of2 .ensures)
 
 returns : tie.Need-returns
@@ -51,7 +56,9 @@ returns c =
     let p = c .before .before .before .before .before .before .before .before .before in
     let a = p .args in
     c .box-ink .ensures
-    ∙ cell-ink-is (p .pre .0) (a .cx) (a .cy) (p .pre .1 .0) (p .pre .1 .1) (rw (c .before .before .before .before .before .before .cells-of .ensures)) (sym (c .before .before .if1 .taken) ∙ c .before .before .before .before .span-of .ensures)
+    ∙ cell-ink-is (p .pre .0) (a .cx) (a .cy) (p .pre .1 .0) (p .pre .1 .1)
+    (rw (c .before .before .before .before .before .before .cells-of .ensures))
+    (sym (c .before .before .if1 .taken) ∙ c .before .before .before .before .span-of .ensures)
     (sym (c .before .if2 .taken) ∙ c .before .before .before .span-of2 .ensures)
 
 mul-box-ink-3 : tie.Need-mul-box-ink-3
@@ -63,14 +70,17 @@ mul-box-ink-4 c = search needs
 box-ink-requires-2 : tie.Need-box-ink-requires-2
 box-ink-requires-2 c κs =
     let p = c .before .before .before .before .before .before .before in
-    inside-cell (p .pre .0 .picture) (p .args .cx) (p .args .cy) (p .pre .1 .0) (p .pre .1 .1) (c .before .before .span-of .ensures) (c .before .span-of2 .ensures)
+    inside-cell (p .pre .0 .picture) (p .args .cx) (p .args .cy) (p .pre .1 .0) (p .pre .1 .1) (c .before .before .span-of .ensures)
+    (c .before .span-of2 .ensures)
 
 returns-2 : tie.Need-returns-2
 returns-2 c =
     let p = c .before .before .before .before .before .before .before .before in
     let a = p .args in
     c .box-ink2 .ensures
-    ∙ cell-ink-is (p .pre .0) (a .cx) (a .cy) (p .pre .1 .0) (p .pre .1 .1) (rw (c .before .before .before .before .before .cells-of .ensures)) (c .before .before .before .span-of .ensures) (c .before .before .span-of2 .ensures)
+    ∙ cell-ink-is (p .pre .0) (a .cx) (a .cy) (p .pre .1 .0) (p .pre .1 .1)
+    (rw (c .before .before .before .before .before .cells-of .ensures)) (c .before .before .before .span-of .ensures)
+    (c .before .before .span-of2 .ensures)
 
 pub cell-ink-spec : {M : Type 1} → statement M
 cell-ink-spec =

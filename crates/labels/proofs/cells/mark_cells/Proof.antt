@@ -21,10 +21,15 @@ abbrev μ-loop : tie.MeasureT-loop
 
 -- the place of a turn is within the grid
 inside : (c : tie.In-loop Inv-loop μ-loop)
-    → c .before .loop .k < cells8 (c .before .before .before .before .before .before .before .args .w) * cells8 (c .before .before .before .before .before .before .before .args .h)
+    → c .before .loop .k < cells8 (c .before .before .before .before .before .before .before .args .w) * cells8
+    (c .before .before .before .before .before .before .before .args .h)
 inside c =
     let a = c .before .before .before .before .before .before .before .args in
-    rw (← mul-comm (cells8 (a .h)) (cells8 (a .w)), ← c .before .before .before .region-cells .ensures, ← c .before .before .region-cells2 .ensures) (c .loop-test .taken)
+    rw (
+      ← mul-comm (cells8 (a .h)) (cells8 (a .w)),
+      ← c .before .before .before .region-cells .ensures,
+      ← c .before .before .region-cells2 .ensures,
+    ) (c .loop-test .taken)
 
 region-cells-requires : tie.Need-region-cells-requires Inv-loop μ-loop
 region-cells-requires c κs = search needs
@@ -33,7 +38,10 @@ region-cells-requires-2 : tie.Need-region-cells-requires-2 Inv-loop μ-loop
 region-cells-requires-2 c κs = search needs
 
 mul-n : tie.Need-mul-n Inv-loop μ-loop
-mul-n c = omega (arith, mul-le-mul {n₁ = c .region-cells2 .result} {m₁ = c .before .region-cells .result} {n₂ = 512} {m₂ = 512} (omega arith) (omega arith))
+mul-n c = omega (
+  arith,
+  mul-le-mul {n₁ = c .region-cells2 .result} {m₁ = c .before .region-cells .result} {n₂ = 512} {m₂ = 512} (omega arith) (omega arith),
+)
 
 loop-holds : tie.Need-loop-holds Inv-loop μ-loop
 loop-holds c = drawing-begin _ _ _ _
@@ -54,7 +62,13 @@ mul-labels c = omega (arith, inside (c .before .before))
 slice-write-labels : tie.Need-slice-write-labels Inv-loop μ-loop
 slice-write-labels c =
     let p = c .before .before .before .before .before .before .before .before .before in
-    omega (arith, inside (c .before .before), c .before .before .before .loop .inv .same, p .pre .1, mul-comm (cells8 (p .args .h)) (cells8 (p .args .w)))
+    omega (
+      arith,
+      inside (c .before .before),
+      c .before .before .before .loop .inv .same,
+      p .pre .1,
+      mul-comm (cells8 (p .args .h)) (cells8 (p .args .w)),
+    )
 
 add-k : tie.Need-add-k Inv-loop μ-loop
 add-k c = omega (arith, inside (c .before .before))
@@ -74,7 +88,8 @@ loop-again c =
     let p = c .before .before .before .before .before .before .before .before .before .before in
     let a = p .args in
     let room : cells8 (a .w) * cells8 (a .h) ≤ length (now (a .labels)) = rw (mul-comm (cells8 (a .h)) (cells8 (a .w))) at (p .pre .1) in
-    drawing-row (c .before .before .before .before .loop .inv) (inside (c .before .before .before)) room (c .before .mark-of .ensures ∙ ap mark (c .before .before .cell-ink .ensures))
+    drawing-row (c .before .before .before .before .loop .inv) (inside (c .before .before .before)) room
+    (c .before .mark-of .ensures ∙ ap mark (c .before .before .cell-ink .ensures))
     (c .if1 .taken ∙ c .before .before .before .before .before .before .region-cells .ensures)
 
 loop-less-2 : tie.Need-loop-less-2 Inv-loop μ-loop
@@ -86,7 +101,8 @@ loop-again-2 c =
     let p = c .before .before .before .before .before .before .before .before .before .before in
     let a = p .args in
     let room : cells8 (a .w) * cells8 (a .h) ≤ length (now (a .labels)) = rw (mul-comm (cells8 (a .h)) (cells8 (a .w))) at (p .pre .1) in
-    drawing-on (c .before .before .before .before .loop .inv) (inside (c .before .before .before)) room (c .before .mark-of .ensures ∙ ap mark (c .before .before .cell-ink .ensures))
+    drawing-on (c .before .before .before .before .loop .inv) (inside (c .before .before .before)) room
+    (c .before .mark-of .ensures ∙ ap mark (c .before .before .cell-ink .ensures))
     (λ full. c .if1 .left (full ∙ sym (c .before .before .before .before .before .before .region-cells .ensures)))
 
 same-length : tie.Need-same-length Inv-loop μ-loop
@@ -96,7 +112,11 @@ returns : tie.Need-returns Inv-loop μ-loop
 returns c =
     let a = c .before .before .before .before .before .before .before .args in
     drawing-end (c .before .loop .inv)
-    (rw (← mul-comm (cells8 (a .h)) (cells8 (a .w)), ← c .before .before .before .region-cells .ensures, ← c .before .before .region-cells2 .ensures) (c .loop-test .left))
+    (rw (
+      ← mul-comm (cells8 (a .h)) (cells8 (a .w)),
+      ← c .before .before .before .region-cells .ensures,
+      ← c .before .before .region-cells2 .ensures,
+    ) (c .loop-test .left))
 
 pub mark-cells-spec : {M : Type 1} → statement M
 mark-cells-spec =

@@ -61,9 +61,18 @@ cast-i c = omega (arith, c .slice-known5 .given (c .before .before .loop .k - 1)
 
 visit-near-requires : tie.Need-visit-near-requires Inv-loop μ-loop
 visit-near-requires c κs =
-    let e = c .before .before .before .before .before .before .before .before .before .before .before .before .before .before .before .before .before in
-    let q = c .before .before .before .before .loop in
-    (down-safe _ _ (q .k) (q .inv .safe), (q .inv .safe .below (q .k - 1) (omega arith), q .inv .size, omega (arith, q .inv .size, e .pre), omega (arith, e .pre), omega (arith, e .pre)))
+    let e = c .before .before .before .before .before .before .before .before .before .before .before .before .before .before .before
+    .before .before in
+    let q = c .before .before .before .before .loop in (
+      down-safe _ _ (q .k) (q .inv .safe),
+      (
+        q .inv .safe .below (q .k - 1) (omega arith),
+        q .inv .size,
+        omega (arith, q .inv .size, e .pre),
+        omega (arith, e .pre),
+        omega (arith, e .pre),
+      ),
+    )
 
 enum-known-next : tie.Need-enum-known-next Inv-loop μ-loop
 enum-known-next c = search needs
@@ -79,21 +88,36 @@ same-length-4 c = search needs
 
 returns-2 : tie.Need-returns-2 Inv-loop μ-loop
 returns-2 c =
-    let e = c .before .before .before .before .before .before .before .before .before .before .before .before .before .before .before .before .before .before .before .before .before .before .before .before in
+    let e = c .before .before .before .before .before .before .before .before .before .before .before .before .before .before .before
+    .before .before .before .before .before .before .before .before .before in
     let q = c .before .before .before .before .before .before .before .before .before .before .before .loop .inv in
     let t = or-full (c .before .before .before .before .before .before .visit-near .ensures) (c .enum-told2 .given .1) in
-    stops (omega (arith, t, q .size, q .same-stack, c .before .before .before .before .before .before .before .before .before .before .before .before .before .before .before .before .before .before .before .visit .kept .1 .0, e .pre))
+    stops (omega (
+      arith,
+      t,
+      q .size,
+      q .same-stack,
+      c .before .before .before .before .before .before .before .before .before .before .before .before .before .before .before .before
+          .before .before .before .visit .kept .1 .0,
+      e .pre,
+    ))
 
 loop-less : tie.Need-loop-less Inv-loop μ-loop
 loop-less c =
-    let e = c .before .before .before .before .before .before .before .before .before .before .before .before .before .before .before .before .before .before .before .before .before .before .before .before .before in
+    let e = c .before .before .before .before .before .before .before .before .before .before .before .before .before .before .before
+    .before .before .before .before .before .before .before .before .before .before in
     let q = c .before .before .before .before .before .before .before .before .before .before .before .before .loop in
     let t = or-at (c .before .before .before .before .before .before .before .visit-near .ensures) (c .before .next .given .1) in
-    omega (arith, run-sum (e .args .v) (λ p. omega (arith, e .pre)) (λ j. near (e .args .w) (getD (q .stack) (q .k - 1) 0) j ≡ true) (t .ran))
+    omega (
+      arith,
+      run-sum (e .args .v) (λ p. omega (arith, e .pre)) (λ j. near (e .args .w) (getD (q .stack) (q .k - 1) 0) j ≡ true)
+          (t .ran),
+    )
 
 loop-again : tie.Need-loop-again Inv-loop μ-loop
 loop-again c =
-    let e = c .before .before .before .before .before .before .before .before .before .before .before .before .before .before .before .before .before .before .before .before .before .before .before .before .before in
+    let e = c .before .before .before .before .before .before .before .before .before .before .before .before .before .before .before
+    .before .before .before .before .before .before .before .before .before .before in
     let q = c .before .before .before .before .before .before .before .before .before .before .before .before .loop in
     let r = c .before .before .before .before .before .before .before .visit-near in
     let t = or-at (r .ensures) (c .before .next .given .1) in

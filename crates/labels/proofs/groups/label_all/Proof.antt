@@ -52,11 +52,19 @@ same-length-2 c = search needs
 
 returns : tie.Need-returns
 returns c =
-    let p = c .before .before .before .before .before .before .before .before .before .before .before .before .before .before .before .before .before .before .before .before in
+    let p = c .before .before .before .before .before .before .before .before .before .before .before .before .before .before .before
+    .before .before .before .before .before in
     let a = p .args in
-    let r = c .before .before .before .before .before .before .before .before .before .before .before .before .before .before .label-cells in
-    answers-cleared (a .w) (a .h * a .w) (c .before .before .before .before .before .before .before .before .before .before .before .before .before .before .before .before .before .least .result) (now (a .labels)) (now (a .stack)) (r .last .0) (c .before .before .before .before .before .before .clear .last .0) (r .last .1 .0)
-    (c .before .before .clear2 .last .0) (p .pre .0) (c .before .before .before .before .before .before .before .before .before .before .before .before .before .before .before .before .before .least .ensures) (r .ensures) (c .before .before .before .before .before .before .before .before .enum-told .given .1) (c .before .before .before .before .before .before .clear .ensures) (c .before .before .clear2 .ensures)
+    let r = c .before .before .before .before .before .before .before .before .before .before .before .before .before .before .label-cells
+    in
+    answers-cleared (a .w) (a .h * a .w)
+    (c .before .before .before .before .before .before .before .before .before .before .before .before .before .before .before .before
+    .before .least .result) (now (a .labels)) (now (a .stack)) (r .last .0)
+    (c .before .before .before .before .before .before .clear .last .0) (r .last .1 .0)
+    (c .before .before .clear2 .last .0) (p .pre .0)
+    (c .before .before .before .before .before .before .before .before .before .before .before .before .before .before .before .before
+    .before .least .ensures) (r .ensures) (c .before .before .before .before .before .before .before .before .enum-told .given .1)
+    (c .before .before .before .before .before .before .clear .ensures) (c .before .before .clear2 .ensures)
     (r .kept .0) (r .kept .1 .0)
 
 same-length-3 : tie.Need-same-length-3
@@ -70,8 +78,10 @@ returns-2 c =
     let p = c .before .before .before .before .before .before .before .before .before .before .before .before .before in
     let a = p .args in
     let r = c .before .before .before .before .before .before .before .label-cells in
-    answers-given (a .w) (a .h * a .w) (c .before .before .before .before .before .before .before .before .before .before .least .result) (now (a .labels)) (now (a .stack)) (r .last .0) (r .last .1 .0) (p .pre .0)
-    (c .before .before .before .before .before .before .before .before .before .before .least .ensures) (r .ensures) (c .before .v .given .1) (r .kept .0) (r .kept .1 .0)
+    answers-given (a .w) (a .h * a .w) (c .before .before .before .before .before .before .before .before .before .before .least .result)
+    (now (a .labels)) (now (a .stack)) (r .last .0) (r .last .1 .0) (p .pre .0)
+    (c .before .before .before .before .before .before .before .before .before .before .least .ensures) (r .ensures)
+    (c .before .v .given .1) (r .kept .0) (r .kept .1 .0)
 
 pub label-all-spec : {M : Type 1} → statement M
 label-all-spec =

@@ -30,7 +30,8 @@ same-length-2 : tie.Need-same-length-2
 same-length-2 c = search needs
 
 returns-2 : tie.Need-returns-2
-returns-2 c = filled (c .before .before .before .before .before .before .before .before .if1 .left) (fills-yes (c .before .before .before .before .before .flood .ensures) (c .if2 .taken))
+returns-2 c = filled (c .before .before .before .before .before .before .before .before .if1 .left)
+    (fills-yes (c .before .before .before .before .before .flood .ensures) (c .if2 .taken))
 
 same-length-3 : tie.Need-same-length-3
 same-length-3 c = search needs

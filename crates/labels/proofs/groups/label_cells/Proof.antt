@@ -36,7 +36,13 @@ returns : tie.Need-returns Inv-loop μ-loop
 returns c =
     let q = c .before .before .before .before .before .before .before .before .before .before .loop .inv in
     let t = one-full (c .before .before .before .before .before .before .label-at .ensures) (c .enum-told .given .1) in
-    short (omega (arith, t, q .size, q .same-stack, c .before .before .before .before .before .before .before .before .before .before .before .before .before .pre))
+    short (omega (
+      arith,
+      t,
+      q .size,
+      q .same-stack,
+      c .before .before .before .before .before .before .before .before .before .before .before .before .before .pre,
+    ))
 
 add-s : tie.Need-add-s Inv-loop μ-loop
 add-s c = search needs
@@ -49,7 +55,8 @@ loop-again c =
     let e = c .before .before .before .before .before .before .before .before .before .before .before .before .before .before in
     let q = c .before .before .before .before .before .before .before .before .before .before .before .loop in
     let r = c .before .before .before .before .before .before .before .label-at in
-    labelling-one _ _ _ _ (omega (arith, e .pre)) (omega arith) (omega (arith, q .inv .small, q .inv .size, e .pre)) (q .inv) (r .ensures) (c .before .n .given .1) (r .kept .0) (r .kept .1 .0)
+    labelling-one _ _ _ _ (omega (arith, e .pre)) (omega arith) (omega (arith, q .inv .small, q .inv .size, e .pre)) (q .inv) (r .ensures)
+    (c .before .n .given .1) (r .kept .0) (r .kept .1 .0)
 
 same-length-3 : tie.Need-same-length-3 Inv-loop μ-loop
 same-length-3 c = search needs

@@ -49,7 +49,8 @@ mul-visit-row : tie.Need-mul-visit-row Inv-loop μ-loop
 mul-visit-row c =
     let e = c .before .before .before .before .before .before .before .before .before .before in
     let q = c .before .before .before .loop in
-    let b = row-within (q .g) (e .args .h) (e .args .w) (c .before .before .before .before .before .before .high .result) (omega arith) (omega (arith, q .inv .right)) in
+    let b = row-within (q .g) (e .args .h) (e .args .w) (c .before .before .before .before .before .before .high .result) (omega arith)
+    (omega (arith, q .inv .right)) in
     let m = mod-lt (e .args .i) {m = e .args .w} (omega arith) in
     omega arith
 
@@ -57,7 +58,8 @@ add-visit-row : tie.Need-add-visit-row Inv-loop μ-loop
 add-visit-row c =
     let e = c .before .before .before .before .before .before .before .before .before .before in
     let q = c .before .before .before .loop in
-    let b = row-within (q .g) (e .args .h) (e .args .w) (c .before .before .before .before .before .before .high .result) (omega arith) (omega (arith, q .inv .right)) in
+    let b = row-within (q .g) (e .args .h) (e .args .w) (c .before .before .before .before .before .before .high .result) (omega arith)
+    (omega (arith, q .inv .right)) in
     let m = mod-lt (e .args .i) {m = e .args .w} (omega arith) in
     omega arith
 
@@ -65,7 +67,8 @@ mul-visit-row-2 : tie.Need-mul-visit-row-2 Inv-loop μ-loop
 mul-visit-row-2 c =
     let e = c .before .before .before .before .before .before .before .before .before .before in
     let q = c .before .before .before .loop in
-    let b = row-within (q .g) (e .args .h) (e .args .w) (c .before .before .before .before .before .before .high .result) (omega arith) (omega (arith, q .inv .right)) in
+    let b = row-within (q .g) (e .args .h) (e .args .w) (c .before .before .before .before .before .before .high .result) (omega arith)
+    (omega (arith, q .inv .right)) in
     let m = mod-lt (e .args .i) {m = e .args .w} (omega arith) in
     omega arith
 
@@ -73,7 +76,8 @@ add-visit-row-2 : tie.Need-add-visit-row-2 Inv-loop μ-loop
 add-visit-row-2 c =
     let e = c .before .before .before .before .before .before .before .before .before .before in
     let q = c .before .before .before .loop in
-    let b = row-within (q .g) (e .args .h) (e .args .w) (c .before .before .before .before .before .before .high .result) (omega arith) (omega (arith, q .inv .right)) in
+    let b = row-within (q .g) (e .args .h) (e .args .w) (c .before .before .before .before .before .before .high .result) (omega arith)
+    (omega (arith, q .inv .right)) in
     let m = mod-lt (e .args .i) {m = e .args .w} (omega arith) in
     omega arith
 
@@ -81,8 +85,11 @@ visit-row-requires : tie.Need-visit-row-requires Inv-loop μ-loop
 visit-row-requires c κs =
     let e = c .before .before .before .before .before .before .before .before .before .before in
     let q = c .before .before .before .loop in
-    let b = row-within (q .g) (e .args .h) (e .args .w) (c .before .before .before .before .before .before .high .result) (omega arith) (omega (arith, q .inv .right)) in
-    (run-safe (e .args .v) (λ p. omega arith) (λ j. near (e .args .w) (e .args .i) j ≡ true) (q .inv .rows .ran) (e .pre .0), (omega (arith, q .inv .rows .same), omega (arith, q .inv .rows .same), omega arith))
+    let b = row-within (q .g) (e .args .h) (e .args .w) (c .before .before .before .before .before .before .high .result) (omega arith)
+    (omega (arith, q .inv .right)) in (
+      run-safe (e .args .v) (λ p. omega arith) (λ j. near (e .args .w) (e .args .i) j ≡ true) (q .inv .rows .ran) (e .pre .0),
+      (omega (arith, q .inv .rows .same), omega (arith, q .inv .rows .same), omega arith),
+    )
 
 enum-known-next : tie.Need-enum-known-next Inv-loop μ-loop
 enum-known-next c = search needs
@@ -99,7 +106,12 @@ same-length-2 c = search needs
 returns : tie.Need-returns Inv-loop μ-loop
 returns c =
     let q = c .before .before .before .before .before .before .before .before .before .before .loop .inv .rows in
-    full-or (omega (arith, or-full (c .before .before .before .before .before .before .visit-row .ensures) (c .enum-told .given .1), q .same, q .same-stack))
+    full-or (omega (
+      arith,
+      or-full (c .before .before .before .before .before .before .visit-row .ensures) (c .enum-told .given .1),
+      q .same,
+      q .same-stack,
+    ))
 
 add-g : tie.Need-add-g Inv-loop μ-loop
 add-g c = search needs
@@ -109,7 +121,8 @@ loop-less c = search needs
 
 loop-again : tie.Need-loop-again Inv-loop μ-loop
 loop-again c =
-    let e = c .before .before .before .before .before .before .before .before .before .before .before .before .before .before .before .before .before .before in
+    let e = c .before .before .before .before .before .before .before .before .before .before .before .before .before .before .before
+    .before .before .before in
     let q = c .before .before .before .before .before .before .before .before .before .before .before .loop in
     let r = c .before .before .before .before .before .before .before .visit-row in
     let t = or-at (r .ensures) (c .before .next .given .1) in
@@ -121,7 +134,8 @@ loop-again c =
           rows-turn
           (λ p. omega (arith, e .pre))
           (q .inv .rows)
-          (row-near (e .args .w) (e .args .i) (q .g) _ _ (q .inv .left) (q .inv .right) (omega (arith, q .inv .rows .from)) (omega (arith, q .inv .bottom)))
+          (row-near (e .args .w) (e .args .i) (q .g) _ _ (q .inv .left) (q .inv .right) (omega (arith, q .inv .rows .from))
+          (omega (arith, q .inv .bottom)))
           (t .ran)
           (t .all)
           (r .kept .1 .0);
@@ -137,7 +151,11 @@ returns-2 : tie.Need-returns-2 Inv-loop μ-loop
 returns-2 c =
     let e = c .before .before .before .before .before .before .before .before in
     let q = c .before .loop .inv in
-    at-or (record { ran = q .rows .ran; shut = rows-end (e .args .h) (omega arith) (omega (arith, q .rows .same)) (q .left) (q .right) (omega (arith, q .bottom)) (q .rows) })
+    at-or (record {
+      ran = q .rows .ran;
+      shut = rows-end (e .args .h) (omega arith) (omega (arith, q .rows .same)) (q .left) (q .right)
+          (omega (arith, q .bottom)) (q .rows);
+    })
 
 pub visit-near-spec : {M : Type 1} → statement M
 visit-near-spec =

@@ -36,7 +36,12 @@ same-length-2 c = search needs
 returns : tie.Need-returns Inv-loop μ-loop
 returns c =
     let q = c .before .before .before .before .before .before .before .before .before .before .loop .inv in
-    full-or (omega (arith, or-full (c .before .before .before .before .before .before .visit .ensures) (c .enum-told .given .1), q .same, q .same-stack))
+    full-or (omega (
+      arith,
+      or-full (c .before .before .before .before .before .before .visit .ensures) (c .enum-told .given .1),
+      q .same,
+      q .same-stack,
+    ))
 
 add-j : tie.Need-add-j Inv-loop μ-loop
 add-j c = search needs
@@ -48,7 +53,8 @@ loop-again : tie.Need-loop-again Inv-loop μ-loop
 loop-again c =
     let e = c .before .before .before .before .before .before .before .before .before .before .before .before .before .before in
     let q = c .before .before .before .before .before .before .before .before .before .before .before .loop in
-    row-turn (λ p. omega (arith, e .pre)) (q .inv) (omega arith) (omega (arith, q .inv .same, e .pre)) (or-at (c .before .before .before .before .before .before .before .visit .ensures) (c .before .next .given .1))
+    row-turn (λ p. omega (arith, e .pre)) (q .inv) (omega arith) (omega (arith, q .inv .same, e .pre))
+    (or-at (c .before .before .before .before .before .before .before .visit .ensures) (c .before .next .given .1))
 
 same-length-3 : tie.Need-same-length-3 Inv-loop μ-loop
 same-length-3 c = search needs

@@ -31,26 +31,38 @@ count-cell-requires c κs =
       high = omega arith;
       right = omega arith;
       low = omega arith;
-      bottom = omega (arith, mul-le-mul-right {m = 16 * a .cy + c .span-of2 .result} {n = a .h} (a .w) (omega arith), mul-comm (a .w) (a .h));
+      bottom = omega (
+        arith,
+        mul-le-mul-right {m = 16 * a .cy + c .span-of2 .result} {n = a .h} (a .w) (omega arith),
+        mul-comm (a .w) (a .h),
+      );
     }
 
 mul-cut : tie.Need-mul-cut
-mul-cut c = omega (arith, mul-le-mul {n₁ = c .before .before .span-of .result} {m₁ = c .before .span-of2 .result} {n₂ = 16} {m₂ = 16} (omega arith) (omega arith))
+mul-cut c = omega (
+  arith,
+  mul-le-mul {n₁ = c .before .before .span-of .result} {m₁ = c .before .span-of2 .result} {n₂ = 16} {m₂ = 16} (omega arith) (omega arith),
+)
 
 cast-cut : tie.Need-cast-cut
-cast-cut c = omega (arith, mul-le-mul {n₁ = c .before .before .span-of .result} {m₁ = c .before .span-of2 .result} {n₂ = 16} {m₂ = 16} (omega arith) (omega arith))
+cast-cut c = omega (
+  arith,
+  mul-le-mul {n₁ = c .before .before .span-of .result} {m₁ = c .before .span-of2 .result} {n₂ = 16} {m₂ = 16} (omega arith) (omega arith),
+)
 
 low-bin-requires : tie.Need-low-bin-requires
 low-bin-requires c κs =
     let k = c .before in
     let a = k .before .before .before .before .args in
-    bin-small (plane (a .w) (now (a .s))) (a .w) (a .h) (a .cx) (a .cy) (k .count-cell .result) _ _ (k .before .before .span-of .ensures) (k .before .span-of2 .ensures) (k .count-cell .ensures)
+    bin-small (plane (a .w) (now (a .s))) (a .w) (a .h) (a .cx) (a .cy) (k .count-cell .result) _ _ (k .before .before .span-of .ensures)
+    (k .before .span-of2 .ensures) (k .count-cell .ensures)
 
 high-bin-requires : tie.Need-high-bin-requires
 high-bin-requires c κs =
     let k = c .before .before .before in
     let a = k .before .before .before .before .args in
-    bin-small (plane (a .w) (now (a .s))) (a .w) (a .h) (a .cx) (a .cy) (k .count-cell .result) _ _ (k .before .before .span-of .ensures) (k .before .span-of2 .ensures) (k .count-cell .ensures)
+    bin-small (plane (a .w) (now (a .s))) (a .w) (a .h) (a .cx) (a .cy) (k .count-cell .result) _ _ (k .before .before .span-of .ensures)
+    (k .before .span-of2 .ensures) (k .count-cell .ensures)
 
 mul-t13 : tie.Need-mul-t13
 mul-t13 c = omega arith
@@ -72,9 +84,11 @@ returns c =
     let k = c .before .before .before .before in
     let a = k .before .before .before .before .args in (
       ap (_*_ 8) (c .before .before .low-bin .ensures .0)
-          ∙ is-dark (plane (a .w) (now (a .s))) (a .w) (a .h) (a .cx) (a .cy) (k .count-cell .result) _ _ (k .before .before .span-of .ensures) (k .before .span-of2 .ensures) (k .count-cell .ensures),
+          ∙ is-dark (plane (a .w) (now (a .s))) (a .w) (a .h) (a .cx) (a .cy) (k .count-cell .result) _ _
+          (k .before .before .span-of .ensures) (k .before .span-of2 .ensures) (k .count-cell .ensures),
       ap (λ (n : ℕ). 8 * n + 7) (c .high-bin .ensures .0)
-          ∙ is-light (plane (a .w) (now (a .s))) (a .w) (a .h) (a .cx) (a .cy) (k .count-cell .result) _ _ (k .before .before .span-of .ensures) (k .before .span-of2 .ensures) (k .count-cell .ensures),
+          ∙ is-light (plane (a .w) (now (a .s))) (a .w) (a .h) (a .cx) (a .cy) (k .count-cell .result) _ _
+          (k .before .before .span-of .ensures) (k .before .span-of2 .ensures) (k .count-cell .ensures),
     )
 
 pub cell-levels-spec : {M : Type 1} → statement M

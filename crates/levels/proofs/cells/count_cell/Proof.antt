@@ -16,7 +16,8 @@ use Rattle.levels.proofs.cells.count_cell.Tie as tie
 
 abbrev Inv-loop : tie.InvT-loop
 Inv-loop s w x0 y0 lx ly even₀ odd₀ j₀ even odd j =
-    (j ≤ ly) × (length even ≡ 32) × (length odd ≡ 32) × ((b : ℕ) → b < 32 → getD even b 0 + getD odd b 0 ≡ countRows (plane w s) x0 y0 lx j b)
+    (j ≤ ly) × (length even ≡ 32) × (length odd ≡ 32)
+    × ((b : ℕ) → b < 32 → getD even b 0 + getD odd b 0 ≡ countRows (plane w s) x0 y0 lx j b)
 
 abbrev μ-loop : tie.MeasureT-loop
 μ-loop s w x0 y0 lx ly even₀ odd₀ j₀ even odd j = ly - j

@@ -13,7 +13,8 @@ use Rattle.levels.proofs.cells.count_pairs.Tie as tie
 
 abbrev Inv-loop : tie.InvT-loop
 Inv-loop row even₀ odd₀ i₀ even odd i =
-    (i ≤ length row) × (length even ≡ 32) × (length odd ≡ 32) × ((b : ℕ) → b < 32 → getD even b 0 + getD odd b 0 ≡ getD even₀ b 0 + getD odd₀ b 0 + countList row i b)
+    (i ≤ length row) × (length even ≡ 32) × (length odd ≡ 32)
+    × ((b : ℕ) → b < 32 → getD even b 0 + getD odd b 0 ≡ getD even₀ b 0 + getD odd₀ b 0 + countList row i b)
 
 abbrev μ-loop : tie.MeasureT-loop
 μ-loop row even₀ odd₀ i₀ even odd i = length row - i
@@ -85,13 +86,20 @@ loop-again c =
     let row = now (at .before .args .row) in
     let u = getD row (at .loop .i) 0 in
     let v = getD row (at .loop .i + 1) 0 in
-    let lu : u / 8 < length (at .loop .even) = omega (arith, c .before .before .before .shared-slice-known .given (at .loop .i), at .loop .inv .1) in
+    let lu : u / 8 < length (at .loop .even) =
+    omega (arith, c .before .before .before .shared-slice-known .given (at .loop .i), at .loop .inv .1) in
     let lv : v / 8 < length (at .loop .odd) = omega (arith, c .before .shared-slice-known2 .given (at .loop .i + 1), at .loop .inv .2) in
     let two : at .loop .i + 2 ≡ at .loop .i + 1 + 1 = omega arith in (
       omega arith,
       simp length-set (at .loop .inv .1),
       simp length-set (at .loop .inv .2),
-      λ b l. rw (bump (at .loop .even) u b lu, bump (at .loop .odd) v b lv, two, countList-more row (at .loop .i + 1) b, countList-more row (at .loop .i) b) (omega (arith, at .loop .inv .3 b l)),
+      λ b l. rw (
+        bump (at .loop .even) u b lu,
+        bump (at .loop .odd) v b lv,
+        two,
+        countList-more row (at .loop .i + 1) b,
+        countList-more row (at .loop .i) b,
+      ) (omega (arith, at .loop .inv .3 b l)),
     )
 
 shared-slice-read-a-2 : tie.Need-shared-slice-read-a-2 Inv-loop μ-loop

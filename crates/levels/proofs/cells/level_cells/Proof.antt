@@ -27,7 +27,8 @@ abbrev μ-loop : tie.MeasureT-loop
 
 -- the place of a turn is within the grid
 inside : (c : tie.In-loop Inv-loop μ-loop)
-    → c .before .loop .k < cells (c .before .before .before .before .before .before .before .args .w) * cells (c .before .before .before .before .before .before .before .args .h)
+    → c .before .loop .k < cells (c .before .before .before .before .before .before .before .args .w) * cells
+    (c .before .before .before .before .before .before .before .args .h)
 inside c = rw (← c .before .before .before .cells-of .ensures, ← c .before .before .cells-of2 .ensures) (c .loop-test .taken)
 
 cells-of-requires : tie.Need-cells-of-requires Inv-loop μ-loop
@@ -37,7 +38,10 @@ cells-of-requires-2 : tie.Need-cells-of-requires-2 Inv-loop μ-loop
 cells-of-requires-2 c κs = omega arith
 
 mul-n : tie.Need-mul-n Inv-loop μ-loop
-mul-n c = omega (arith, mul-le-mul {n₁ = c .before .cells-of .result} {m₁ = c .cells-of2 .result} {n₂ = 256} {m₂ = 256} (omega arith) (omega arith))
+mul-n c = omega (
+  arith,
+  mul-le-mul {n₁ = c .before .cells-of .result} {m₁ = c .cells-of2 .result} {n₂ = 256} {m₂ = 256} (omega arith) (omega arith),
+)
 
 loop-holds : tie.Need-loop-holds Inv-loop μ-loop
 loop-holds c = (omega arith, refl, written-none _ _, refl, written-none _ _)
@@ -110,7 +114,8 @@ returns : tie.Need-returns Inv-loop μ-loop
 returns c =
     let at = c .before in
     let a = at .before .before .before .before .before .before .args in
-    let m : cells (a .w) * cells (a .h) ≤ at .loop .k = rw (← at .before .before .cells-of .ensures, ← at .before .cells-of2 .ensures) (c .loop-test .left) in
+    let m : cells (a .w) * cells (a .h) ≤ at .loop .k =
+    rw (← at .before .before .cells-of .ensures, ← at .before .cells-of2 .ensures) (c .loop-test .left) in
     let e : cells (a .w) * cells (a .h) ≡ at .loop .k = omega arith in
     (rw e (at .loop .inv .2), rw e (at .loop .inv .4))
 

@@ -25,7 +25,11 @@ shared-slice-read-t : tie.Need-shared-slice-read-t
 shared-slice-read-t c =
     let a = c .before .before .before .before .args in
     rw (c .before .cells-of .ensures)
-    (omega (arith, place-lt (a .x / 16) (a .y / 16) (cells (a .w)) (cells (a .h)) (omega arith) (omega arith), c .before .before .before .before .pre .1 .0 .room))
+    (omega (
+      arith,
+      place-lt (a .x / 16) (a .y / 16) (cells (a .w)) (cells (a .h)) (omega arith) (omega arith),
+      c .before .before .before .before .pre .1 .0 .room,
+    ))
 
 mul-result : tie.Need-mul-result
 mul-result c =

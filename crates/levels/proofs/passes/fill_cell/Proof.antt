@@ -60,7 +60,12 @@ returns-2 c =
     let e = k .before .before .before .before in
     let a = e .before .before .before .args in
     c .mean-of .ensures
-    ∙ rw (k .before .before .before .west-of .ensures, k .before .before .east-of .ensures, k .before .north-of .ensures, k .south-of .ensures)
+    ∙ rw (
+      k .before .before .before .west-of .ensures,
+      k .before .before .east-of .ensures,
+      k .before .north-of .ensures,
+      k .south-of .ensures,
+    )
     (simp (eq-eqb (plane (a .w) (now (a .g)) (a .x) (a .y)) 0 (e .if1 .left)))
 
 pub fill-cell-spec : {M : Type 1} → statement M

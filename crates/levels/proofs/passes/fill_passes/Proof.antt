@@ -44,7 +44,8 @@ loop-again c =
     let f = c .before .before .before .before .before .before .before .before .before .before .before .loop .inv in
     let fill = c .before .before .before .before .before .before .before .fill-pass in
     let back = c .before .before .narrow in
-    filling-turn f (c .before .before .before .before .before .before .before .before .before .before .loop-test .taken) (fill .ensures .0) (back .ensures) (back .kept .1 .0) (fill .kept .1 .0)
+    filling-turn f (c .before .before .before .before .before .before .before .before .before .before .loop-test .taken) (fill .ensures .0)
+    (back .ensures) (back .kept .1 .0) (fill .kept .1 .0)
 
 same-length : tie.Need-same-length Inv-loop μ-loop
 same-length c = c .before .loop .inv .same

@@ -57,7 +57,8 @@ cast-result c =
     let k = c .before in
     let a = k .before .before .before .before .args in
     let l = mean-le (a .a) (a .b) (a .c) (a .d) (omega arith) (omega arith) (omega arith) (omega arith) in
-    rw (k .before .before .before .one-if .ensures, k .before .before .one-if2 .ensures, k .before .one-if3 .ensures, k .one-if4 .ensures) (record { fits = omega arith })
+    rw (k .before .before .before .one-if .ensures, k .before .before .one-if2 .ensures, k .before .one-if3 .ensures, k .one-if4 .ensures)
+    (record { fits = omega arith })
 
 returns-2 : tie.Need-returns-2
 unfolding mean

@@ -52,7 +52,8 @@ join-row-requires c κs =
     let p = c .before .before .before .before in
     let a = p .args in
     bytes-part (a .w * a .h) (a .y * a .w + c .before .before .near-first .result)
-    (a .y * a .w + c .before .before .near-first .result + c .before .near-count .result) (now (a .g)) (p .pre .1 .0) (omega (arith, row-end (a .y) (a .h) (a .w) (omega arith), mul-comm (a .w) (a .h)))
+    (a .y * a .w + c .before .before .near-first .result + c .before .near-count .result) (now (a .g)) (p .pre .1 .0)
+    (omega (arith, row-end (a .y) (a .h) (a .w) (omega arith), mul-comm (a .w) (a .h)))
 
 returns : tie.Need-returns
 returns c =
@@ -60,7 +61,8 @@ returns c =
     let a = k .before .before .before .args in
     let l = row-end (a .y) (a .h) (a .w) (omega arith) in
     c .join-row .ensures
-    ∙ across-part (a .most) (now (a .g)) (a .w) (a .x) (a .y) _ _ (ap (_+_ (a .y * a .w)) (k .before .near-first .ensures)) (ap (_+_ (a .y * a .w + k .before .near-first .result)) (k .near-count .ensures)) (omega (arith, mul-comm (a .w) (a .h)))
+    ∙ across-part (a .most) (now (a .g)) (a .w) (a .x) (a .y) _ _ (ap (_+_ (a .y * a .w)) (k .before .near-first .ensures))
+    (ap (_+_ (a .y * a .w + k .before .near-first .result)) (k .near-count .ensures)) (omega (arith, mul-comm (a .w) (a .h)))
 
 pub across-cell-spec : {M : Type 1} → statement M
 across-cell-spec =

@@ -28,10 +28,12 @@ returns c =
     let down = c .before .before .pool-down in
     let over = c .before .before .before .before .before .before .before .pool-across in
     let a = c .before .before .before .before .before .before .before .before .before .before .before .before .args in (
-      pooled-drawn (a .most) (a .w) (a .h) (now (a .g)) (now (a .mid)) (over .last .1 .0) (down .last .1 .0) (over .ensures) (down .ensures .0),
+      pooled-drawn (a .most) (a .w) (a .h) (now (a .g)) (now (a .mid)) (over .last .1 .0) (down .last .1 .0) (over .ensures)
+          (down .ensures .0),
       (
         down .ensures .1,
-        ap (drop (a .w * a .h)) (over .ensures) ∙ drop-written (a .w * a .h) (rowwise (a .w) (across (a .most) (a .w) (plane (a .w) (now (a .g))))) (now (a .mid)),
+        ap (drop (a .w * a .h)) (over .ensures)
+            ∙ drop-written (a .w * a .h) (rowwise (a .w) (across (a .most) (a .w) (plane (a .w) (now (a .g))))) (now (a .mid)),
       ),
     )
 

@@ -20,8 +20,18 @@ pool-requires c κs = search needs
 
 pool-requires-2 : tie.Need-pool-requires-2
 pool-requires-2 c κs =
-    let p = c .before .before .before .before .before .before .before .before .before .before .before .before .pre in
-    (p .1 .0, (p .1 .1 .1 .1, record { wide = p .1 .1 .0 .wide; high = p .1 .1 .0 .high; room = rw (c .before .before .before .before .before .before .pool .kept .1 .0) (p .1 .1 .0 .room) }))
+    let p = c .before .before .before .before .before .before .before .before .before .before .before .before .pre in (
+      p .1 .0,
+      (
+        p .1 .1 .1 .1,
+        record {
+          wide = p .1 .1 .0 .wide;
+          high = p .1 .1 .0 .high;
+          room = rw
+              (c .before .before .before .before .before .before .pool .kept .1 .0) (p .1 .1 .0 .room);
+        },
+      ),
+    )
 
 mul-thresholds : tie.Need-mul-thresholds
 mul-thresholds c = search needs
@@ -40,18 +50,24 @@ same-length-3 c = search needs
 
 returns : tie.Need-returns
 returns c =
-    let a = c .before .before .before .before .before .before .before .before .before .before .before .before .before .before .before .before .before .before .before .before .before .before .before .args in
-    let darks = c .before .before .before .before .before .before .before .before .before .before .before .before .before .before .before .before .before .pool in
+    let a = c .before .before .before .before .before .before .before .before .before .before .before .before .before .before .before
+    .before .before .before .before .before .before .before .before .args in
+    let darks = c .before .before .before .before .before .before .before .before .before .before .before .before .before .before .before
+    .before .before .pool in
     let lights = c .before .before .before .before .before .before .before .before .before .before .pool2 in
     let n = a .w * a .h in (
       c .before .before .thresholds .ensures
-          ∙ pairwise-drawn (a .w) (a .h) (now (a .darks)) (now (a .lights)) (now (a .darks)) (now (a .lights)) (darks .last .0) (lights .last .0) _
+          ∙ pairwise-drawn (a .w) (a .h) (now (a .darks)) (now (a .lights)) (now (a .darks)) (now (a .lights)) (darks .last .0)
+          (lights .last .0) _
           (darks .ensures .0) (lights .ensures .0)
-          ∙ ap (λ (l : List ℕ). tab n (rowwise (a .w) (sharp (a .w) (a .h) (plane (a .w) (now (a .darks))) (plane (a .w) (now (a .lights))))) ++ l)
+          ∙ ap (λ (l : List ℕ). tab n
+          (rowwise (a .w) (sharp (a .w) (a .h) (plane (a .w) (now (a .darks))) (plane (a .w) (now (a .lights))))) ++ l)
           (lights .ensures .1 .1 ∙ darks .ensures .1 .1),
       (
-        ap (drop n) (darks .ensures .0) ∙ drop-written n (rowwise (a .w) (pooled false (a .w) (a .h) (plane (a .w) (now (a .darks))))) (now (a .darks)),
-        ap (drop n) (lights .ensures .0) ∙ drop-written n (rowwise (a .w) (pooled true (a .w) (a .h) (plane (a .w) (now (a .lights))))) (now (a .lights)),
+        ap (drop n) (darks .ensures .0)
+            ∙ drop-written n (rowwise (a .w) (pooled false (a .w) (a .h) (plane (a .w) (now (a .darks))))) (now (a .darks)),
+        ap (drop n) (lights .ensures .0)
+            ∙ drop-written n (rowwise (a .w) (pooled true (a .w) (a .h) (plane (a .w) (now (a .lights))))) (now (a .lights)),
       ),
     )
 

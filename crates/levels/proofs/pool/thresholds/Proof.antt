@@ -59,7 +59,8 @@ loop-again c =
     let a = c .before .before .before .before .before .before .before .before .args in (
       omega arith,
       simp length-set (at .loop .inv .1),
-      written-step (at .loop .k) (pairwise (now (a .darks)) (now (a .lights))) (now (a .grid)) (at .loop .inv .2) (c .threshold-of .ensures) (omega arith),
+      written-step (at .loop .k) (pairwise (now (a .darks)) (now (a .lights))) (now (a .grid)) (at .loop .inv .2)
+          (c .threshold-of .ensures) (omega arith),
     )
 
 same-length : tie.Need-same-length Inv-loop μ-loop

@@ -1,6 +1,5 @@
 -- `light_all` walks the positions. Invariant: `Lighting`, the window's part of the gathered lumas and the marks written so far. Measure:
--- the
--- positions left. Assumes nothing.
+-- the positions left. Assumes nothing.
 use Prim.Native.Nat.{_-_}
 use native.Mathlib.Omega.{arith}
 use lib.ListN.{length}

@@ -1,6 +1,5 @@
 -- `agreement_at` walks the sequence and the map side by side. Invariant: `Counting`, the map's value at i and the agreement below i.
--- Measure:
--- the positions left. Assumes nothing.
+-- Measure: the positions left. Assumes nothing.
 use Prim.Native.Nat.{_-_}
 use native.Mathlib.Omega.{arith}
 use Rattle.marks.proofs.Walks.{quarter-in, Counting, counting-begin, counting-turn, counting-end}

@@ -76,7 +76,8 @@ returns-5 c = let a =
       not-false (c .before .before .before .before .before .before .before .before .is-side .result)
           (c .before .before .before .before .before .before .before .if1 .left),
       ← c .before .before .before .before .before .before .is-side2 .ensures,
-      not-false (c .before .before .before .before .before .before .is-side2 .result) (c .before .before .before .before .before .if2 .left),
+      not-false (c .before .before .before .before .before .before .is-side2 .result)
+          (c .before .before .before .before .before .if2 .left),
       eq-eqb (a .bytes) (a .w * a .h) (c .before .before .before .before .if3 .left),
       ← c .before .before .before .is-part .ensures,
       not-false (c .before .before .before .is-part .result) (c .before .before .if4 .left),

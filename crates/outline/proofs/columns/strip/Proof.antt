@@ -51,9 +51,9 @@ put-columns-requires c κs =
     let p = memberAt (a .want) (a .w) (now (a .s)) (now (a .levels)) (now (a .labels)) in (
       (omega (arith, e .pre .0, e .pre .1), e .pre .1 .3, omega (arith, e .pre .0, e .pre .1), e .pre .1 .6),
       (
-        swept-most p (a .y0) (a .rows) (a .x) (a .n) false _
+        swept-most p (a .y0) (a .rows) (a .x) (a .n) false (a .rows) _
             (c .before .before .before .before .before .before .before .before .scan-columns .ensures),
-        swept-most p (a .y0) (a .rows) (a .x) (a .n) true _ (c .before .before .before .scan-columns2 .ensures),
+        swept-most p (a .y0) (a .rows) (a .x) (a .n) true (a .rows) _ (c .before .before .before .scan-columns2 .ensures),
       ),
     )
 

@@ -1,7 +1,7 @@
 -- `outline::sweep::scan_columns` meets its contract. The loop's invariant (`Swept`): the states are those after k rows, and the thresholds
 -- are those of row y. The measure is rows - k. Assumes nothing.
 use mathlib.Core.Path.{_≡_, subst}
-use Prim.Native.Nat.{ℕ, _-_, _≤_, _<_, _+_, _/_}
+use Prim.Native.Nat.{_*_, ℕ, _-_, _≤_, _<_, _+_, _/_}
 use native.Mathlib.Nat.{mul-le-mul}
 use native.Mathlib.Omega.{arith}
 use denote.Ref.{now}
@@ -9,9 +9,12 @@ use borrow.Author.Needs.{needs}
 use Rattle.boundary.specs.Boundary.{memberAt}
 use Rattle.outline.specs.Scan.{Swept, CutRow}
 use Rattle.outline.proofs.Cuts.{row-within}
-use Rattle.outline.proofs.Sweeps.{part-turn, swept-early}
+use Rattle.outline.proofs.Sweeps.{swept-most, part-short, part-at-most, part-turn, swept-early}
 use Rattle.outline.proofs.sweep.scan_columns.Statement.{statement}
 use Rattle.outline.proofs.sweep.scan_columns.Tie as tie
+
+-- `outline::sweep::scan_columns` meets its contract. The loop's invariant (`Swept`): the states are those after k rows, and the thresholds
+-- are those of row y. The measure is rows - k. Assumes nothing.
 
 abbrev Inv-loop : tie.InvT-loop
 Inv-loop s levels labels want w h x n y0 rows back state₀ cuts₀ y₀ k₀ state cuts y k =
@@ -76,7 +79,16 @@ cast-step-row : tie.Need-cast-step-row Inv-loop μ-loop
 cast-step-row c = search needs
 
 step-row-requires : tie.Need-step-row-requires Inv-loop μ-loop
-step-row-requires c κs = search needs
+step-row-requires c κs =
+    let e = c .before .before .before .before .before .before .before .before .before .before .before .before .before .before in
+    let a = e .args in
+    let q = c .before .before .before .before .before .before .before .loop in
+    let y = c .before .before .before .before .before .place2 in
+    let m = memberAt (a .want) (a .w) (now (a .s)) (now (a .levels)) (now (a .labels)) in (
+      (part-short (y .result * a .w + a .x) (a .n) (now (a .s)) (e .pre .1 .0 .3), q .inv .3 .size, omega arith),
+      part-at-most (y .result * a .w + a .x) (a .n) (now (a .s)) (q .state)
+          (λ i l. omega (arith, swept-most m (a .y0) (a .rows) (a .x) (a .n) (a .back) (q .k) (q .state) (q .inv .3) i l)),
+    )
 
 add-k : tie.Need-add-k Inv-loop μ-loop
 add-k c = search needs

@@ -1,6 +1,6 @@
 -- `outline::sweep::step_row` meets its contract. The loop's invariant (`Stepped`): the first i columns are one step further. The measure is
 -- what is left of the row. Assumes nothing.
-use mathlib.Core.Path.{subst, _≡_}
+use mathlib.Core.Path.{sym, subst, _≡_}
 use Prim.Native.Nat.{ℕ, _-_, _≤_}
 use native.Mathlib.Omega.{arith}
 use lib.ListN.{length}
@@ -10,6 +10,9 @@ use Rattle.outline.specs.Scan.{Stepped}
 use Rattle.outline.proofs.Sweeps.{stepped-turn}
 use Rattle.outline.proofs.sweep.step_row.Statement.{statement}
 use Rattle.outline.proofs.sweep.step_row.Tie as tie
+
+-- `outline::sweep::step_row` meets its contract. The loop's invariant (`Stepped`): the first i columns are one step further. The measure is
+-- what is left of the row. Assumes nothing.
 
 abbrev Inv-loop : tie.InvT-loop
 Inv-loop row cuts state₀ k i₀ state i = (i ≤ length row) × Stepped row cuts state₀ k i state
@@ -33,7 +36,10 @@ element-copy-out-next-state-2 : tie.Need-element-copy-out-next-state-2 Inv-loop 
 element-copy-out-next-state-2 c = search needs
 
 next-state-requires : tie.Need-next-state-requires Inv-loop μ-loop
-next-state-requires c κs = search needs
+next-state-requires c κs =
+    let e = c .before .before .before .before .before .before in
+    let q = c .before .before .before .before .loop in
+    (e .pre .0 .2, subst (λ (v : ℕ). v ≤ 4096) (sym (q .inv .1 .left (q .i) (omega arith))) (e .pre .1 (q .i) (omega arith)))
 
 mul-state : tie.Need-mul-state Inv-loop μ-loop
 mul-state c = search needs

@@ -17,7 +17,8 @@ shared-slice-read-if1 c = search needs
 
 returns : tie.Need-returns
 unfolding want
-returns c = left (λ w q. absurd (omega (arith, leb-true 16 (getD (c .before .before .before .args .sizes .now) (c .before .before .before .args .b) 0) w)))
+returns c = left (λ w q. absurd
+    (omega (arith, leb-true 16 (getD (c .before .before .before .args .sizes .now) (c .before .before .before .args .b) 0) w)))
 
 is-behind-requires : tie.Need-is-behind-requires
 is-behind-requires c κs = search needs
@@ -33,7 +34,9 @@ returns-3 c = left (λ w q. sym (c .before .does-beat .ensures) ∙ not-true _ (
 
 returns-4 : tie.Need-returns-4
 unfolding want
-returns-4 c = took (le-leb _ _ (c .before .before .before .before .if1 .left)) (sym (c .before .before .before .is-behind .ensures) ∙ not-false _ (c .before .before .if2 .left)) (sym (c .before .does-beat .ensures) ∙ not-false _ (c .if3 .left))
+returns-4 c = took (le-leb _ _ (c .before .before .before .before .if1 .left))
+    (sym (c .before .before .before .is-behind .ensures) ∙ not-false _ (c .before .before .if2 .left))
+    (sym (c .before .does-beat .ensures) ∙ not-false _ (c .if3 .left))
 
 pub better-spec : {M : Type 1} → statement M
 better-spec =

@@ -39,7 +39,8 @@ loop-again : tie.Need-loop-again Inv-loop μ-loop
 loop-again c =
     let q = c .before .before .before .loop in
     let r = c .before .first-behind in (
-      picking-turn (q .inv .0) (r .ensures) (omega (arith, r .ensures .most)) (λ j h. getD-set-other (q .at) (q .i) j (r .result) 0 (omega arith)) (getD-set-same (q .at) (q .i) (r .result) 0 (omega arith)),
+      picking-turn (q .inv .0) (r .ensures) (omega (arith, r .ensures .most))
+          (λ j h. getD-set-other (q .at) (q .i) j (r .result) 0 (omega arith)) (getD-set-same (q .at) (q .i) (r .result) 0 (omega arith)),
       omega arith,
       length-set (q .at) (q .i) (r .result) ∙ q .inv .2,
     )

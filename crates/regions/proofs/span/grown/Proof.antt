@@ -29,7 +29,12 @@ greatest-requires-2 c κs = search needs
 returns-2 : tie.Need-returns-2
 returns-2 c =
     record {
-      yes = λ t. (c .before .before .before .least .ensures, c .before .before .least2 .ensures, c .before .greatest .ensures, c .greatest2 .ensures);
+      yes = λ t. (
+        c .before .before .before .least .ensures,
+        c .before .before .least2 .ensures,
+        c .before .greatest .ensures,
+        c .greatest2 .ensures,
+      );
       no = λ t. absurd (clash (not-false _ (c .before .before .before .before .if1 .left)) t);
     }
 

@@ -45,13 +45,15 @@ loop-less : tie.Need-loop-less Inv-loop μ-loop
 loop-less c = omega arith
 
 loop-again : tie.Need-loop-again Inv-loop μ-loop
-loop-again c = spanning-row (c .before .before .before .before .loop .inv) (c .before .before .before .loop-test .taken) (c .before .grown .ensures) (c .if1 .taken)
+loop-again c = spanning-row (c .before .before .before .before .loop .inv) (c .before .before .before .loop-test .taken)
+    (c .before .grown .ensures) (c .if1 .taken)
 
 loop-less-2 : tie.Need-loop-less-2 Inv-loop μ-loop
 loop-less-2 c = omega arith
 
 loop-again-2 : tie.Need-loop-again-2 Inv-loop μ-loop
-loop-again-2 c = spanning-on (c .before .before .before .before .loop .inv) (c .before .before .before .loop-test .taken) (c .before .grown .ensures) (c .if1 .left)
+loop-again-2 c = spanning-on (c .before .before .before .before .loop .inv) (c .before .before .before .loop-test .taken)
+    (c .before .grown .ensures) (c .if1 .left)
 
 returns : tie.Need-returns Inv-loop μ-loop
 returns c =

@@ -23,7 +23,9 @@ same-length c = search needs
 returns : tie.Need-returns
 returns c =
     let a = c .before .before .before .before .before .before .before .before .args in
-    c .kept-regions .ensures ∙ ap (λ (m : ℕ). keptIn (now (a .labels)) m (a .w) (a .h) (a .width) (a .height)) (c .before .before .before .before .tally .kept .1 .0)
+    c .kept-regions .ensures
+    ∙ ap (λ (m : ℕ). keptIn (now (a .labels)) m (a .w) (a .h) (a .width) (a .height))
+    (c .before .before .before .before .tally .kept .1 .0)
 
 pub regions-spec : {M : Type 1} → statement M
 regions-spec = tie.close (tie.spec tally-requires kept-regions-requires same-length returns)

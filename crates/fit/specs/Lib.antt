@@ -1,0 +1,5 @@
+pub mod F32
+pub mod Select
+pub mod Line
+pub mod Corner
+pub mod Consensus

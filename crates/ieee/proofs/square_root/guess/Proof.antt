@@ -1,0 +1,20 @@
+-- `ieee::square_root::guess` meets its contract: the last remainder is below its divisor. Assumes nothing.
+use borrow.Author.Needs.{needs}
+use Rattle.ieee.proofs.Guesses.{number-of, whole64}
+use Rattle.ieee.proofs.square_root.guess.Tie as tie
+use Rattle.ieee.proofs.square_root.guess.Statement.{statement}
+
+int-to-float-x : tie.Need-int-to-float-x
+int-to-float-x c = whole64 _ (c .before .pre)
+
+float-to-bits-result : tie.Need-float-to-bits-result
+float-to-bits-result c = number-of _ _ (c .if1 .taken)
+
+returns : tie.Need-returns
+returns c = search needs
+
+returns-2 : tie.Need-returns-2
+returns-2 c = search needs
+
+pub guess-spec : {M : Type 1} → statement M
+guess-spec = tie.close (tie.spec int-to-float-x float-to-bits-result returns returns-2)

@@ -1,0 +1,4 @@
+pub mod Bows
+pub mod EdgeMeasures
+pub mod HullQuads
+pub mod Estimates

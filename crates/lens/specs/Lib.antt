@@ -1,0 +1,4 @@
+pub mod Bow
+pub mod Straight
+pub mod Measure
+pub mod Estimate

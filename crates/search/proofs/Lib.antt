@@ -1,0 +1,6 @@
+pub mod Pixels
+pub mod Sampled
+pub mod LumaLists
+pub mod Maps
+pub mod RingReads
+pub mod Searches

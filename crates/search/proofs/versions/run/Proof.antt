@@ -1,0 +1,59 @@
+-- `search::versions::run` makes 65 steps. Invariant: the steps left from here give the whole search, and there is room for the next score.
+-- Measure: the steps left. Assumes nothing.
+use Prim.Native.Nat.{_-_}
+use mathlib.Core.Path.{_≡_, sym, ap, subst}
+use borrow.Author.Needs.{needs}
+use Rattle.search.proofs.Searches.{start-held, steps-step, steps-end}
+use Rattle.search.specs.Versions.{Held, stepsOn, searchOf}
+use Rattle.search.proofs.versions.run.Statement.{statement}
+use Rattle.search.proofs.versions.run.Tie as tie
+
+abbrev Inv-loop : tie.InvT-loop
+Inv-loop gray w h g s₀ k₀ s k = Held s × (stepsOn gray w h g (65 - k) k s ≡ searchOf gray w h g)
+
+abbrev μ-loop : tie.MeasureT-loop
+μ-loop gray w h g s₀ k₀ s k = 65 - k
+
+start-requires : tie.Need-start-requires Inv-loop μ-loop
+start-requires c κs = search needs
+
+loop-holds : tie.Need-loop-holds Inv-loop μ-loop
+loop-holds c =
+    let a = c .before .before .args in
+    (subst Held (sym (c .start .ensures)) start-held, ap (stepsOn (a .gray .now) (a .w) (a .h) (a .g) 65 0) (c .start .ensures))
+
+step-requires : tie.Need-step-requires Inv-loop μ-loop
+step-requires c κs = (c .before .before .before .before .pre .0, (c .before .loop .inv .0, c .before .before .before .before .pre .1))
+
+add-k : tie.Need-add-k Inv-loop μ-loop
+add-k c = search needs
+
+loop-less : tie.Need-loop-less Inv-loop μ-loop
+loop-less c = search needs
+
+loop-again : tie.Need-loop-again Inv-loop μ-loop
+loop-again c =
+    let a = c .before .before .before .before .before .args in (
+      c .step .ensures .1,
+      steps-step (a .gray .now) (a .w) (a .h) (a .g) 65 _ _ _ _ (c .before .loop-test .taken) (c .step .ensures .0)
+          (c .before .before .loop .inv .1),
+    )
+
+returns : tie.Need-returns Inv-loop μ-loop
+returns c =
+    let a = c .before .before .before .before .args in
+    (steps-end (a .gray .now) (a .w) (a .h) (a .g) 65 _ _ _ (c .loop-test .left) (c .before .loop .inv .1), c .before .loop .inv .0)
+
+pub run-spec : {M : Type 1} → statement M
+run-spec =
+    tie.close
+    (tie.spec
+    Inv-loop
+    μ-loop
+    start-requires
+    loop-holds
+    step-requires
+    add-k
+    loop-less
+    loop-again
+    returns)

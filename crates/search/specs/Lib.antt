@@ -1,0 +1,4 @@
+pub mod Geometry
+pub mod Samples
+pub mod Lumas
+pub mod Versions

@@ -1,0 +1,64 @@
+-- Samples of a ring cell, as ring.rs takes them in `ring_lumas`: five points of a cell, each mapped to a pixel; those outside the picture
+-- do not count. Definitions only. Assumes nothing.
+use Prim.Native.Nat.{ℕ, _+_, _*_, _≤_}
+use mathlib.Core.Path.{_≡_}
+use mathlib.Core.Bool.{Bool, cond, _||_}
+use mathlib.Core.List.{List}
+use lib.IntN.{ℤ}
+use lib.Ieee.{Float, nan, binary32, lt, le, ofInt, ofBits, toUnsigned}
+use lib.ListN.{length, getD}
+use Rattle.ieee.specs.Constants.{0·3, 0·7}
+use Rattle.transform.specs.Mapping.{applied}
+use Rattle.transform.specs.declared.Transform.{Transform}
+use Rattle.transform.specs.declared.Pixel.{Pixel}
+use Rattle.lcr_core.specs.Border.{InRange}
+use Rattle.lcr_core.specs.declared.border.Cell.{Cell}
+use Rattle.hull.specs.Points.{0f}
+use Rattle.fit.specs.F32.{_⊕_, _⊘_, whole, 1f}
+use Rattle.search.specs.declared.samples.Sum.{Sum}
+
+-- A picture of w by h bytes, each side from 1 to 4,096.
+pub record Photo (gray : List ℕ) (w h : ℕ) : Type 0 where
+  pub wide : (1 ≤ w) × (w ≤ 4096)
+  pub high : (1 ≤ h) × (h ≤ 4096)
+  pub bytes : length gray ≡ w * h
+
+-- A cell whose coordinates are small whole numbers.
+pub record NearCell (cell : Cell) : Type 0 where
+  pub across : InRange (cell .x)
+  pub down : InRange (cell .y)
+
+-- A place outside the picture: below 0, or at or past a side. A NaN coordinate is neither.
+unfoldable pub outside : ℕ → ℕ → Pixel → Bool
+outside w h p = lt (p .x) 0f || (lt (p .y) 0f || (le (whole w) (p .x) || le (whole h) (p .y)))
+
+-- The byte at a place, each coordinate cut toward zero. A NaN coordinate counts as 0.
+unfoldable pub byteAt : List ℕ → ℕ → Pixel → ℕ
+byteAt gray w p = getD gray (toUnsigned 32 (p .y) * w + toUnsigned 32 (p .x)) 0
+
+-- A sum with the byte at a place, where that is in the picture.
+unfoldable pub addSample : List ℕ → ℕ → ℕ → Sum → Pixel → Sum
+addSample gray w h s p =
+    cond (outside w h p) s record { sum = s .sum ⊕ whole (byteAt gray w p); n = s .n ⊕ 1f }
+
+-- 0.5, which f32 holds exactly.
+abbrev pub 0·5 : Float
+0·5 = ofBits binary32 0x3f00_0000
+
+-- A sum with the sample at (x + du, y + dv) of a cell.
+unfoldable pub samplePoint : List ℕ → ℕ → ℕ → Transform → Cell → Float → Float → Sum → Sum
+samplePoint gray w h t cell du dv s =
+    addSample gray w h s (applied t (ofInt binary32 (cell .x) ⊕ du) (ofInt binary32 (cell .y) ⊕ dv))
+
+-- A sum with the five samples of a cell: its middle, then left, right, above and below it.
+unfoldable pub sampleCell : List ℕ → ℕ → ℕ → Transform → Cell → Sum → Sum
+sampleCell gray w h t cell s =
+    samplePoint gray w h t cell 0·5 0·7
+    (samplePoint gray w h t cell 0·5 0·3
+    (samplePoint gray w h t cell 0·7 0·5
+    (samplePoint gray w h t cell 0·3 0·5
+    (samplePoint gray w h t cell 0·5 0·5 s))))
+
+-- The mean of what was summed; a NaN where there was nothing.
+unfoldable pub meanOf : Sum → Float
+meanOf s = cond (lt 0f (s .n)) (s .sum ⊘ s .n) nan
