@@ -78,7 +78,7 @@ module _ (m : Move) (W H : ℕ) (posW : 0 < W) (posH : 0 < H) (p p′ : Plane)
   region-within =
       let c = region-cell m W H posW posH p p′ same untied i l in
       let r = region-in p w h (keptLabel p w h i) (omega arith) (c .0) (c .1) (c .2) in
-      record { across′ = r .0; down′ = r .1; wide = r .2; high = r .3 }
+      record { across′ = omega (arith, r .0); down′ = omega (arith, r .1); wide = r .2; high = r .3 }
 
   -- A point is among the boundary points as often as the point moved there was.
   pub points-of : (k : ℕ) (q : Pt)

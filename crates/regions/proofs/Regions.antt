@@ -241,9 +241,9 @@ module _ (m : Move) (W H : ℕ) (posW : 0 < W) (posH : 0 < H) (p p′ : Plane)
       ∙ sym (ap₂ (λ (x y : ℕ). boxOf m x y (finerBox 8 (cellBox p (16 * W) (16 * H) L))) e f)
       ∙ ap (boxOf m (16 * W) (16 * H)) (sym (region-finer p W H L posW posH))
 
--- The box of a label that some cell has is a box within the picture.
+-- The box of a label that some cell has is a box within the picture, and not empty.
 pub region-in : (p : Plane) (w h l : ℕ) → 0 < cells8 w → (d : ℕ) → d < cellsOf w h → cellLabel p w h d ≡ l
-    → (regionBox p w h l .x0 ≤ regionBox p w h l .x1) × (regionBox p w h l .y0 ≤ regionBox p w h l .y1) × (regionBox p w h l .x1 ≤ w)
+    → (regionBox p w h l .x0 < regionBox p w h l .x1) × (regionBox p w h l .y0 < regionBox p w h l .y1) × (regionBox p w h l .x1 ≤ w)
     × (regionBox p w h l .y1 ≤ h)
 unfolding regionBox cellBox
 region-in p w h l pos d b e =
@@ -261,5 +261,5 @@ region-in p w h l pos d b e =
       min-le-right (8 * highest q (λ c. c / cells8 w) (cellsOf w h)) h,
     )
   where
-    clip : (x z X w : ℕ) → x ≤ z → z + 1 ≤ X → z < cells8 w → 8 * x ≤ min (8 * X) w
+    clip : (x z X w : ℕ) → x ≤ z → z + 1 ≤ X → z < cells8 w → 8 * x < min (8 * X) w
     clip x z X w a c e = omega arith

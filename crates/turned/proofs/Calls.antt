@@ -1,6 +1,7 @@
 -- What an accepted call of the picture door and of the outline door leaves and answers, by the contracts' definitions.
 --     no-refusal                    a number 0 was answered only where no check refuses
 --     regions-is, grid-at, label-at the regions answered, and the thresholds and labels left
+--     grid-room, label-room         the lists left have a place for each cell
 --     region-is                     the i-th region answered
 --     boundary-same                 boundary points by tests that agree in the picture
 --     points-is, listed-is          the points of the outline door for that region, and the numbers listed
@@ -10,19 +11,22 @@ use mathlib.Core.Bool.{Bool, true, false, cond}
 use mathlib.Core.List.{List, [], _∷_, _++_, map}
 use Prim.Native.Nat.{ℕ, zero, suc, _+_, _-_, _*_, _<_, _≤_}
 use native.Mathlib.Omega.{arith}
-use lib.Dec.{ltb}
-use borrow.Author.Tests.{lt-ltb}
+use native.Mathlib.Nat.{mul-comm}
+use lib.Dec.{leb, ltb, eqb}
+use borrow.Author.Tests.{lt-ltb, leb-true}
 use lib.Ieee.{Float}
 use lib.ListN.{length, getD, take, drop}
 use lib.Seq.{take-at}
-use Rattle.laws.specs.Plane.{Plane, plane, drawn, Alike}
+use Rattle.laws.specs.Check.{orRefuse}
+use Rattle.laws.specs.Plane.{Plane, plane, drawn, rowwise, Alike}
 use Rattle.laws.specs.Move.{Box}
+use Rattle.laws.proofs.Folds.{length-written}
 use Rattle.laws.proofs.Planes.{plane-drawn}
 use Rattle.levels.specs.Level.{cells, level}
-use Rattle.regions.specs.Cells.{cells8, labelAt}
+use Rattle.regions.specs.Cells.{cells8, cellsOf, labelAt}
 use Rattle.regions.specs.Kept.{keptOf, keptCount, keptLabel}
 use Rattle.regions.specs.Boxes.{regionBox}
-use Rattle.regions.specs.Door.{noRegion, region, regionAt, keptRegions, checkGrids, answerBy, levelsAfter, labelsAfter}
+use Rattle.regions.specs.Door.{noRegion, region, regionAt, keptRegions, isSide, checkGrids, answerBy, levelsAfter, labelsAfter}
 use Rattle.regions.specs.declared.answer.Kept.{Kept}
 use Rattle.regions.specs.declared.answer.PictureAnswer.{PictureAnswer}
 use Rattle.regions.specs.declared.answer.Region.{Region}
@@ -60,18 +64,66 @@ no-refusal : (n : ℕ) (k : Kept) → answerBy n k .refused ≡ 0 → answerBy n
 no-refusal zero k e = refl
 no-refusal (suc n) k e = absurd (never n e)
 
+none-refused : (n : ℕ) (k : Kept) → answerBy n k .refused ≡ 0 → n ≡ 0
+none-refused zero k e = refl
+none-refused (suc n) k e = absurd (never n e)
+
+-- what the checks say of the lent lists where none refuses
+fits : (w h bytes grid labels stack : ℕ) → checkGrids w h bytes grid labels stack ≡ 0 → (cells w * cells h ≤ grid) × (cellsOf w h ≤ labels)
+fits w h bytes grid labels stack e =
+    go (isSide w) (isSide h) (eqb bytes (w * h)) (leb (cells w * cells h) grid) refl (leb (cellsOf w h) labels) refl
+    (leb (cellsOf w h) stack) e
+  where
+    no : (n : ℕ) → n ≡ 0 → 0 < n → ⊥
+    no n z l = omega arith
+
+    go : (a b d f : Bool) → leb (cells w * cells h) grid ≡ f → (g : Bool) → leb (cellsOf w h) labels ≡ g → (k : Bool)
+        → _≡_ {A = ℕ} (orRefuse a 1 (orRefuse b 1 (orRefuse d 2 (orRefuse f 3 (orRefuse g 3 (orRefuse k 3 0)))))) 0
+        → (cells w * cells h ≤ grid) × (cellsOf w h ≤ labels)
+    go false b d f ef g eg k z = absurd (no 1 z (omega arith))
+    go true false d f ef g eg k z = absurd (no 1 z (omega arith))
+    go true true false f ef g eg k z = absurd (no 2 z (omega arith))
+    go true true true false ef g eg k z = absurd (no 3 z (omega arith))
+    go true true true true ef false eg k z = absurd (no 3 z (omega arith))
+    go true true true true ef true eg k z = (leb-true (cells w * cells h) grid ef, leb-true (cellsOf w h) labels eg)
+
 module _ (s : List ℕ) (w h : ℕ) (c : Pictured s w h) where
+  abbrev number : ℕ
+  number = checkGrids w h (length s) (length (c .lent-grid)) (length (c .lent-labels)) (length (c .lent-stack))
+
+  refused-is : answerBy number (keptRegions (plane w s) w h) .refused ≡ 0
+  refused-is = sym (ap (λ (a : PictureAnswer). a .refused) (c .answer-is)) ∙ c .accepted
+
   pub regions-is : c .answer .regions ≡ keptRegions (plane w s) w h
   regions-is =
       ap (λ (a : PictureAnswer). a .regions) (c .answer-is)
-      ∙ no-refusal (checkGrids w h (length s) (length (c .lent-grid)) (length (c .lent-labels)) (length (c .lent-stack)))
-      (keptRegions (plane w s) w h) (sym (ap (λ (a : PictureAnswer). a .refused) (c .answer-is)) ∙ c .accepted)
+      ∙ no-refusal number (keptRegions (plane w s) w h) refused-is
 
   grid-is : c .grid ≡ drawn (cells w) (cells h) (level (plane w s) w h) (c .lent-grid)
   grid-is = c .grid-is ∙ ap (λ (n : ℕ). levelsAfter n s w h (c .lent-grid)) (c .accepted)
 
   labels-is : c .labels ≡ drawn (cells8 w) (cells8 h) (labelAt (plane w s) w h) (c .lent-labels)
   labels-is = c .labels-is ∙ ap (λ (n : ℕ). labelsAfter n s w h (c .lent-labels)) (c .accepted)
+
+  room : (cells w * cells h ≤ length (c .lent-grid)) × (cellsOf w h ≤ length (c .lent-labels))
+  room =
+      fits w h (length s) (length (c .lent-grid)) (length (c .lent-labels)) (length (c .lent-stack))
+      (none-refused number (keptRegions (plane w s) w h) refused-is)
+
+  -- the lists left have a place for each cell
+  pub grid-room : cells w * cells h ≤ length (c .grid)
+  grid-room =
+      let e = ap length grid-is ∙ length-written (cells w * cells h) (rowwise (cells w) (level (plane w s) w h)) (c .lent-grid) (room .0) in
+      let r = room .0 in
+      omega arith
+
+  pub label-room : cells8 w * cells8 h ≤ length (c .labels)
+  label-room =
+      let m : cells8 h * cells8 w ≡ cells8 w * cells8 h = mul-comm (cells8 h) (cells8 w) in
+      let r : cells8 w * cells8 h ≤ length (c .lent-labels) = subst (λ (n : ℕ). n ≤ length (c .lent-labels)) m (room .1) in
+      let e = ap length labels-is
+      ∙ length-written (cells8 w * cells8 h) (rowwise (cells8 w) (labelAt (plane w s) w h)) (c .lent-labels) r in
+      omega arith
 
   pub grid-at : Alike (cells w) (cells h) (plane (cells w) (c .grid)) (level (plane w s) w h)
   grid-at x y lx ly =

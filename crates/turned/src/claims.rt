@@ -1,4 +1,5 @@
 // Theorems, as functions with an empty body: each `ensures` is the statement.
+ghost use Rattle.turned.specs.Accepts.{DoorsAccept};
 ghost use Rattle.turned.specs.Claims.{Demand3};
 ghost use Rattle.turned.specs.Doors.{DoorsMoved};
 ghost use Rattle.turned.specs.Stars.{Stars};
@@ -13,6 +14,11 @@ pub fn demand_3()
 // moved picture is moved alike.
 pub fn doors_moved()
     ensures { λ _. ⌜ DoorsMoved ⌝ }
+{}
+
+// The calls that `doors_moved` speaks of are there: the doors accept a picture taken, moved or not.
+pub fn doors_accept()
+    ensures { λ _. ⌜ DoorsAccept ⌝ }
 {}
 
 // The starred lines of document 01, as one table.

@@ -1,0 +1,29 @@
+-- The calls that `DoorsMoved` speaks of are there: a moved picture is taken again, and the doors accept a picture taken where the lent
+-- lists have a place for each cell, and four numbers for each row and column of a region's box. Statements only.
+use mathlib.Core.Path.{_≡_}
+use mathlib.Core.List.{List}
+use Prim.Native.Nat.{ℕ, _+_, _-_, _*_, _<_, _≤_}
+use lib.ListN.{length}
+use Rattle.laws.specs.Plane.{plane}
+use Rattle.laws.specs.Move.{Move, wideOf, highOf, movedBytes}
+use Rattle.levels.specs.Level.{cells}
+use Rattle.regions.specs.Cells.{cellsOf}
+use Rattle.regions.specs.Door.{checkGrids}
+use Rattle.turned.specs.Claims.{Taken, NoTies}
+use Rattle.turned.specs.Doors.{Pictured, regionOf, checkedFor}
+
+pub record DoorsAccept : Type 0 where
+  -- The moved picture is taken, with the moved sides: these are 16 times those of the level cells.
+  pub moved : (W H : ℕ) (s : List ℕ) → Taken W H s → (m : Move)
+      → (wideOf m (16 * W) (16 * H) ≡ 16 * wideOf m W H) × (highOf m (16 * W) (16 * H) ≡ 16 * highOf m W H)
+      × Taken (wideOf m W H) (highOf m W H) (movedBytes m (16 * W) (16 * H) s)
+  -- No check of the picture door refuses a picture taken.
+  pub picture : (W H : ℕ) (s : List ℕ) → Taken W H s → (grid labels stack : ℕ)
+      → cells (16 * W) * cells (16 * H) ≤ grid → cellsOf (16 * W) (16 * H) ≤ labels → cellsOf (16 * W) (16 * H) ≤ stack
+      → checkGrids (16 * W) (16 * H) (length s) grid labels stack ≡ 0
+  -- Nor does one of the outline door, for a region that was answered.
+  pub outline : (W H : ℕ) (s : List ℕ) → Taken W H s → NoTies (plane (16 * W) s) (16 * W) (16 * H) → (c : Pictured s (16 * W) (16 * H))
+      → (i room : ℕ) → i < c .answer .regions .kept
+      → 4 * (regionOf s (16 * W) (16 * H) c i .x1 - regionOf s (16 * W) (16 * H) c i .x0
+      + (regionOf s (16 * W) (16 * H) c i .y1 - regionOf s (16 * W) (16 * H) c i .y0)) ≤ room
+      → checkedFor s (16 * W) (16 * H) c (regionOf s (16 * W) (16 * H) c i) room ≡ 0
