@@ -24,7 +24,7 @@ use Rattle.transform.specs.declared.Mapped.{Mapped}
 use Rattle.transform.specs.declared.Mapped.the-variants.{None, Some}
 use Rattle.lcr_core.specs.Version.{IsVersion, isVersion, positionsOf}
 use Rattle.lcr_core.specs.Border.{placeOf, innerCell}
-use Rattle.lcr_core.specs.Doors.{orRefuse}
+use Rattle.laws.specs.Check.{orRefuse}
 use Rattle.lcr_core.specs.declared.border.Cell.{Cell}
 use Rattle.lcr_core.specs.declared.border.Place.{Place}
 use Rattle.lcr_core.proofs.DoorLaws.{place-at}
