@@ -59,4 +59,5 @@ fn main() {
     area(b"math");
     area(b"transform");
     area(b"marks");
+    area(b"fit");
 }
