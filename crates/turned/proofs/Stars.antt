@@ -1,21 +1,24 @@
 -- The starred lines of document 01, each computed from the definitions.
 --     low-contrast                 contrast 79, whatever the levels
+--     bin-count, dark-12, dark-13  a cell of pixels 0 and 255, however they lie
 --     iter-is, row-of-14           the passes over a row of 14 cells, through lists that are computed once each
 --     stars                        the table
 -- Assumes nothing.
-use mathlib.Core.Path.{_≡_, refl, sym, ap, _∙_}
+use mathlib.Core.Path.{_≡_, refl, sym, ap, ap₂, _∙_}
+use mathlib.Core.Logic.{_⊎_, inl, inr}
 use mathlib.Core.Bool.{Bool, true, false, cond, _&&_, _||_}
 use mathlib.Core.List.{List, [], _∷_}
 use Prim.Native.Nat.{ℕ, zero, suc, _+_, _-_, _*_, _≤_, _<_}
 use native.Mathlib.Omega.{arith}
-use lib.Dec.{T, leb, lit<}
-use borrow.Author.Tests.{lt-ltb}
+use lib.Dec.{T, leb, ltb, eqb, lit<}
+use borrow.Author.Tests.{lt-ltb, le-ltb, ne-eqb}
 use lib.Ieee
 use lib.Ieee.{ofBits, round, add, sub, mul, lt, le, eq, isNan}
 use lib.ListN.{getD}
 use Rattle.laws.specs.Count.{count, least}
-use Rattle.laws.specs.Fold.{fold, first, endOf, tab}
+use Rattle.laws.specs.Fold.{fold, sumTo, first, endOf, tab, bit}
 use Rattle.laws.specs.Plane.{Plane, plane, drawn, Alike, box, boxRow}
+use Rattle.laws.proofs.Folds.{fold-ext, first-at, first-none}
 use Rattle.laws.proofs.Planes.{plane-drawn}
 use Rattle.margin.specs.Threshold.{threshold, share, margin}
 use Rattle.levels.specs.Level.{
@@ -46,7 +49,7 @@ use Rattle.hull.specs.Points.{halfOf, numbersOf, floatsOf}
 use Rattle.hull.specs.Hull.{crossAt, d2At, betterAt, lowerAt, sameAt, hullOf, hullPoints}
 use Rattle.hull.specs.Quad.{laceAt, areaAt, quadOf, quadPoints}
 use Rattle.lcr_core.proofs.Controls.{position-26, position-27, position-103, first-marks}
-use Rattle.turned.specs.Stars.{spotted, rowDark, rowLight, two, line, Stars}
+use Rattle.turned.specs.Stars.{Spotted, rowDark, rowLight, two, line, Stars}
 
 low-contrast : (d l : ℕ) → l - d ≡ 79 → threshold d l ≡ 0
 unfolding threshold
@@ -60,13 +63,66 @@ at-255 : threshold 0 255 ≡ 204
 unfolding threshold share margin Ieee.toUnsigned Ieee.sub Ieee.mul Ieee.ofInt Ieee.ofBits
 at-255 = refl
 
-dark-12 : dark (spotted 12) 16 16 0 0 ≡ 248
-unfolding dark lowBin first fold hist countRows countRow inBin
-dark-12 = refl
+-- ---- a cell of 0 and 255
 
-dark-13 : dark (spotted 13) 16 16 0 0 ≡ 0
-unfolding dark lowBin first fold hist countRows countRow inBin
-dark-13 = refl
+bin-0 : (n : ℕ) → (n ≡ 0) ⊎ (n ≡ 255) → inBin 0 n ≡ bit (eqb n 0)
+unfolding inBin
+bin-0 n (inl e) = rw e
+bin-0 n (inr e) = rw e
+
+bin-between : (b n : ℕ) → 1 ≤ b → b < 31 → (n ≡ 0) ⊎ (n ≡ 255) → inBin b n ≡ 0
+unfolding inBin
+bin-between b n l m (inl e) = rw (e, ne-eqb 0 b (λ z. omega arith))
+bin-between b n l m (inr e) = rw (e, ne-eqb 31 b (λ z. omega arith))
+
+-- a bin's count, where each pixel has g there
+bin-count : (p : Plane) (k b : ℕ) (g : ℕ → ℕ) → Spotted p k → ((n : ℕ) → (n ≡ 0) ⊎ (n ≡ 255) → inBin b n ≡ g n)
+    → hist p 16 16 0 0 b ≡ sumTo 16 (λ y. sumTo 16 (λ x. g (p x y)))
+unfolding hist countRows countRow
+bin-count p k b g s same =
+    fold-ext _+_ 0 16 (λ j. sumTo 16 (λ i. inBin b (p (16 * 0 + i) (16 * 0 + j)))) (λ y. sumTo 16 (λ x. g (p x y)))
+    (λ j lj. fold-ext _+_ 0 16 (λ i. inBin b (p (16 * 0 + i) (16 * 0 + j))) (λ x. g (p x j)) (λ i li. at i j li lj))
+  where
+    at : (i j : ℕ) → i < 16 → j < 16 → inBin b (p (16 * 0 + i) (16 * 0 + j)) ≡ g (p i j)
+    at i j li lj =
+        let x : 16 * 0 + i ≡ i = omega arith in
+        let y : 16 * 0 + j ≡ j = omega arith in
+        ap₂ (λ (a c : ℕ). inBin b (p a c)) x y ∙ same (p i j) (s .ends i j li lj)
+
+nothing : sumTo 16 (λ y. sumTo 16 (λ x. 0)) ≡ 0
+unfolding fold
+nothing = refl
+
+-- the running count stays at the first bin's
+running : (f : ℕ → ℕ) (n : ℕ) → f 0 ≡ n → ((b : ℕ) → 1 ≤ b → b < 31 → f b ≡ 0) → (b : ℕ) → b < 31 → sumTo (suc b) f ≡ n
+unfolding fold
+running f n e none zero l = omega arith
+running f n e none (suc b) l =
+    let h = running f n e none b (omega arith) in
+    let z = none (suc b) (omega arith) l in
+    omega arith
+
+dark-12 : (p : Plane) → Spotted p 12 → dark p 16 16 0 0 ≡ 248
+unfolding dark lowBin
+dark-12 p s =
+    ap (λ (n : ℕ). 8 * n)
+    (first-none 31 (λ b. ltb 12 (sumTo (suc b) (hist p 16 16 0 0)))
+    (λ b l. le-ltb 12 (sumTo (suc b) (hist p 16 16 0 0))
+    (let e = running (hist p 16 16 0 0) 12 (bin-count p 12 0 (λ n. bit (eqb n 0)) s bin-0 ∙ s .many)
+        (λ c low high. bin-count p 12 c (λ n. 0) s (λ n q. bin-between c n low high q) ∙ nothing) b l in
+    omega arith)))
+
+dark-13 : (p : Plane) → Spotted p 13 → dark p 16 16 0 0 ≡ 0
+unfolding dark lowBin
+dark-13 p s =
+    ap (λ (n : ℕ). 8 * n)
+    (first-at 31 (λ b. ltb 12 (sumTo (suc b) (hist p 16 16 0 0))) 0 (omega arith) (λ k l. absurd (omega arith))
+    (lt-ltb 12 (sumTo 1 (hist p 16 16 0 0)) (let e = one in omega arith)))
+  where
+    one : sumTo 1 (hist p 16 16 0 0) ≡ 13
+    one =
+        unfold fold in
+        (let z = bin-count p 13 0 (λ n. bit (eqb n 0)) s bin-0 ∙ s .many in let y : 0 + hist p 16 16 0 0 0 ≡ 13 = omega arith in y)
 
 -- ---- a row of 14 cells
 

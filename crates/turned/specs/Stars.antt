@@ -1,6 +1,7 @@
 -- Document 01's starred lines, "Edges of the rules", as one table over the rules' own definitions: a field a line, in 01's order. Points
 -- of hulls and runs are in doubled coordinates. Statements, and the small pictures that they speak of.
 use mathlib.Core.Path.{_≡_}
+use mathlib.Core.Logic.{_⊎_}
 use mathlib.Core.Bool.{Bool, true, false, cond, _&&_, _||_}
 use mathlib.Core.List.{List, [], _∷_, map}
 use Prim.Native.Nat.{ℕ, _+_, _*_, _-_, _<_, _≤_}
@@ -8,6 +9,7 @@ use lib.Dec.{eqb, leb, ltb}
 use lib.IntN.{pos, negsuc}
 use lib.ListN.{length}
 use Rattle.laws.specs.Count.{count}
+use Rattle.laws.specs.Fold.{sumTo, bit}
 use Rattle.laws.specs.Plane.{Plane}
 use Rattle.margin.specs.Threshold.{threshold}
 use Rattle.levels.specs.Level.{dark, sharp, passes}
@@ -20,9 +22,10 @@ use Rattle.lcr_core.specs.Mark.{mark}
 use Rattle.lcr_core.specs.Border.{outerCell}
 use Rattle.lcr_core.specs.declared.border.Cell.{Cell}
 
--- A full level cell whose first k pixels are 0 and whose others are 255.
-abbrev pub spotted : ℕ → Plane
-spotted k x y = cond (ltb (16 * y + x) k) 0 255
+-- A full level cell whose pixels are 0 or 255, and how many of them are 0.
+pub record Spotted (p : Plane) (zeros : ℕ) : Type 0 where
+  pub ends : (x y : ℕ) → x < 16 → y < 16 → (p x y ≡ 0) ⊎ (p x y ≡ 255)
+  pub many : sumTo 16 (λ y. sumTo 16 (λ x. bit (eqb (p x y) 0))) ≡ zeros
 
 -- Dark and light levels of a row of cells of which the first has dark 0 and light 255, and the others are flat 255.
 abbrev pub rowDark : Plane
@@ -46,8 +49,8 @@ pub record Stars : Type 0 where
   pub light-87 : threshold 0 87 ≡ 69
   pub light-255 : threshold 0 255 ≡ 204
   -- Full level cell, rest at 255: 12 pixels of 0 give dark 248, 13 give 0.
-  pub pixels-12 : dark (spotted 12) 16 16 0 0 ≡ 248
-  pub pixels-13 : dark (spotted 13) 16 16 0 0 ≡ 0
+  pub pixels-12 : (p : Plane) → Spotted p 12 → dark p 16 16 0 0 ≡ 248
+  pub pixels-13 : (p : Plane) → Spotted p 13 → dark p 16 16 0 0 ≡ 0
   -- Row of 14 level cells, first with light 255 and dark 0, others flat 255: cells 0 to 11 get 204, cell 12 gets 0.
   pub cells-to-11 : (x : ℕ) → x ≤ 11 → passes 14 1 8 (sharp 14 1 rowDark rowLight) x 0 ≡ 204
   pub cell-12 : passes 14 1 8 (sharp 14 1 rowDark rowLight) 12 0 ≡ 0
