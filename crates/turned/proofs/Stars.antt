@@ -109,7 +109,7 @@ dark-12 p s =
     (first-none 31 (λ b. ltb 12 (sumTo (suc b) (hist p 16 16 0 0)))
     (λ b l. le-ltb 12 (sumTo (suc b) (hist p 16 16 0 0))
     (let e = running (hist p 16 16 0 0) 12 (bin-count p 12 0 (λ n. bit (eqb n 0)) s bin-0 ∙ s .many)
-        (λ c low high. bin-count p 12 c (λ n. 0) s (λ n q. bin-between c n low high q) ∙ nothing) b l in
+    (λ c low high. bin-count p 12 c (λ n. 0) s (λ n q. bin-between c n low high q) ∙ nothing) b l in
     omega arith)))
 
 dark-13 : (p : Plane) → Spotted p 13 → dark p 16 16 0 0 ≡ 0
