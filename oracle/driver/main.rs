@@ -14,11 +14,12 @@ mod math;
 mod numbers_bench;
 mod pic;
 mod picture;
+mod ring;
 mod transform;
 use std::io::{Read, Write};
 
 const AREAS: &[&calls::Area] =
-    &[&border::AREA, &ieee::AREA, &math::AREA, &transform::AREA, &picture::AREA, &marks::AREA, &fit::AREA];
+    &[&border::AREA, &ieee::AREA, &math::AREA, &transform::AREA, &picture::AREA, &marks::AREA, &fit::AREA, &ring::AREA];
 
 /// The areas of a name, or all of them.
 fn areas(name: &str) -> Vec<&'static calls::Area> {

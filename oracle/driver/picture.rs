@@ -202,17 +202,57 @@ impl Lent {
     }
 }
 
+/// The generators' kinds, then cells far enough apart to be regions of their own, a slope of greys under shapes, and
+/// pixels here and there.
+#[cfg(ours)]
+const WIDE: u64 = KINDS + 3;
+
+#[cfg(ours)]
+fn wild(kind: u64, w: u32, h: u32, r: &mut Rng) -> Pic {
+    if kind < KINDS {
+        return generate(kind, w, h, r);
+    }
+    let mut p = Pic::new(w, h, 255);
+    match kind - KINDS {
+        0 => {
+            let (step, size) = (r.range(32, 48), r.range(2, 8));
+            for y in (0..h as i64).step_by(step as usize) {
+                for x in (0..w as i64).step_by(step as usize) {
+                    p.rect(x, y, x + size, y + size, 0);
+                }
+            }
+        }
+        1 => {
+            let (a, b) = (r.range(0, 3) as u32, r.range(1, 3) as u32);
+            for y in 0..h {
+                for x in 0..w {
+                    p.set(x as i64, y as i64, (40 + (a * x + b * y) * 215 / (a * w + b * h)) as u8);
+                }
+            }
+            for _ in 0..r.range(1, 9) {
+                let (x, y) = (r.range(0, w as i64), r.range(0, h as i64));
+                p.rect(x, y, x + r.range(4, 90), y + r.range(4, 90), r.range(0, 60) as u8);
+            }
+        }
+        _ => {
+            let d = [0.0005, 0.002, 0.01, 0.03][r.below(4) as usize];
+            p.g.iter_mut().for_each(|q| if r.chance(d) { *q = 0 });
+        }
+    }
+    p
+}
+
 /// Both sides on pictures of any size up to `side`, through the door's C function: every place of every list.
 #[cfg(ours)]
 pub fn wide(seed: u64, seconds: f64, side: i64) {
     let end = std::time::Instant::now() + std::time::Duration::from_secs_f64(seconds);
-    let (mut i, mut pixels) = (0u64, 0u64);
+    let (mut i, mut pixels, mut most_regions) = (0u64, 0u64, 0);
     while std::time::Instant::now() < end {
         let mut r = Rng(seed.wrapping_mul(0x1_0000_0001).wrapping_add(i));
         let most = if r.chance(0.9) { side.min(400) } else { side };
         let (w, h) = (r.range(1, most) as u32, r.range(1, most) as u32);
-        let kind = r.below(KINDS);
-        let p = generate(kind, w, h, &mut r);
+        let kind = r.below(WIDE);
+        let p = wild(kind, w, h, &mut r);
         let (wu, hu, spare) = (w as usize, h as usize, r.below(5) as usize);
         let mut lent = Lent::new(wu, hu, spare);
         let n = region_cells(wu, hu);
@@ -225,9 +265,10 @@ pub fn wide(seed: u64, seconds: f64, side: i64) {
             std::process::exit(1);
         }
         pixels += w as u64 * h as u64;
+        most_regions = most_regions.max(lent.out[0]);
         i += 1;
     }
-    println!("picture {i} pictures of sides up to {side}, {pixels} pixels, from seed {seed}, 0 different");
+    println!("picture {i} pictures of sides up to {side}, {pixels} pixels, at most {most_regions} regions, from seed {seed}, 0 different");
 }
 
 #[cfg(not(ours))]

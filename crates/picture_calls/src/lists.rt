@@ -1,38 +1,8 @@
-// Lists of calls: bytes from words and back, what lent lists hold before a call, and words put into
-// an answer.
+// Lists of calls: what lent lists hold before a call, and their places put into an answer.
 ghost use mathlib.Core.Path.{_≡_};
 ghost use Prim.Native.Nat.{_≤_};
 ghost use lib.ListN.{length};
-
-// The j-th byte of a word, lowest first.
-fn part(word: u32, j: usize) -> u8 {
-    if j == 0 {
-        return (word % 256) as u8;
-    }
-    if j == 1 {
-        return (word / 256 % 256) as u8;
-    }
-    if j == 2 {
-        return (word / 65536 % 256) as u8;
-    }
-    (word / 16777216) as u8
-}
-
-// The byte at a place of packed words; 0 past their end.
-fn byte(packed: &[u32], k: usize) -> u8 {
-    if packed.len() <= k / 4 {
-        return 0;
-    }
-    part(packed[k / 4], k % 4)
-}
-
-pub fn unpack(packed: &[u32], bytes: &mut [u8]) {
-    let mut k: usize = 0;
-    while k < bytes.len() {
-        bytes[k] = byte(packed, k);
-        k += 1;
-    }
-}
+use packed::put;
 
 // What a place of a lent list holds before the call.
 fn lent_word(k: usize) -> u32 {
@@ -56,13 +26,6 @@ pub fn lend_words(list: &mut [u32]) {
     }
 }
 
-// A word into a place, where there is one.
-pub fn put(out: &mut [u32], k: usize, word: u32) {
-    if k < out.len() {
-        out[k] = word;
-    }
-}
-
 // The byte at a place as a number; 0 past the end.
 fn byte_at(bytes: &[u8], k: usize) -> u32
     ensures { λ r. ⌜ r ≤ 255 ⌝ }
@@ -74,7 +37,7 @@ fn byte_at(bytes: &[u8], k: usize) -> u32
 }
 
 // The word of four bytes of a list.
-fn packed(bytes: &[u8], j: usize) -> u32
+fn word_of(bytes: &[u8], j: usize) -> u32
     requires { ⌜ j ≤ 32 ⌝ }
 {
     byte_at(bytes, 4 * j)
@@ -89,7 +52,7 @@ pub fn put_bytes(bytes: &[u8], out: &mut [u32], at: usize, n: usize)
 {
     let mut j: usize = 0;
     while j < n {
-        put(out, at + j, packed(bytes, j));
+        put(out, at + j, word_of(bytes, j));
         j += 1;
     }
 }

@@ -19,8 +19,8 @@ loop-holds c = search needs
 add-put : tie.Need-add-put Inv-loop μ-loop
 add-put c = search needs
 
-packed-requires : tie.Need-packed-requires Inv-loop μ-loop
-packed-requires c κs = search needs
+word-of-requires : tie.Need-word-of-requires Inv-loop μ-loop
+word-of-requires c κs = search needs
 
 put-requires : tie.Need-put-requires Inv-loop μ-loop
 put-requires c κs = search needs
@@ -48,7 +48,7 @@ put-bytes-spec =
     μ-loop
     loop-holds
     add-put
-    packed-requires
+    word-of-requires
     put-requires
     add-j
     loop-less

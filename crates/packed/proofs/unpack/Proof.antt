@@ -1,17 +1,16 @@
--- The list keeps its length; the measure is the places left. Assumes nothing.
 use mathlib.Core.Path.{_≡_}
 use Prim.Native.Nat.{_-_, _≤_}
 use native.Mathlib.Omega.{arith}
 use lib.ListN.{length, length-set}
 use borrow.Author.Needs.{needs}
-use Rattle.picture_calls.proofs.lists.unpack.Statement.{statement}
-use Rattle.picture_calls.proofs.lists.unpack.Tie as tie
+use Rattle.packed.proofs.unpack.Statement.{statement}
+use Rattle.packed.proofs.unpack.Tie as tie
 
 abbrev Inv-loop : tie.InvT-loop
-Inv-loop packed bytes₀ k₀ bytes k = (k ≤ length bytes₀) × (length bytes ≡ length bytes₀)
+Inv-loop words bytes₀ k₀ bytes k = (k ≤ length bytes₀) × (length bytes ≡ length bytes₀)
 
 abbrev μ-loop : tie.MeasureT-loop
-μ-loop packed bytes₀ k₀ bytes k = length bytes₀ - k
+μ-loop words bytes₀ k₀ bytes k = length bytes₀ - k
 
 loop-holds : tie.Need-loop-holds Inv-loop μ-loop
 loop-holds c = search needs
