@@ -60,4 +60,5 @@ fn main() {
     area(b"transform");
     area(b"marks");
     area(b"fit");
+    area(b"outline");
 }
