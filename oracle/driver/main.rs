@@ -12,6 +12,8 @@ mod list;
 mod marks;
 mod math;
 mod numbers_bench;
+mod outline;
+mod outline_bench;
 mod pic;
 mod picture;
 mod ring;
@@ -19,7 +21,7 @@ mod transform;
 use std::io::{Read, Write};
 
 const AREAS: &[&calls::Area] =
-    &[&border::AREA, &ieee::AREA, &math::AREA, &transform::AREA, &picture::AREA, &marks::AREA, &fit::AREA, &ring::AREA];
+    &[&border::AREA, &ieee::AREA, &math::AREA, &transform::AREA, &picture::AREA, &marks::AREA, &fit::AREA, &ring::AREA, &outline::AREA];
 
 /// The areas of a name, or all of them.
 fn areas(name: &str) -> Vec<&'static calls::Area> {
@@ -47,6 +49,7 @@ fn main() {
         Some("bench") if a.get(2).is_some_and(|s| s == "picture") => picture::bench(),
         Some("bench") if a.get(2).is_some_and(|s| s == "numbers") => numbers_bench::run(),
         Some("bench") if a.get(2).map(|s| s.as_str()) == Some("fit") => fit::bench(),
+        Some("bench") if a.get(2).is_some_and(|s| s == "outline") => outline_bench::run(),
         Some("bench") => bench::run(),
         // wide SEED SECONDS [SIDE]: the picture door through its C function
         Some("wide") => picture::wide(num(2, 1), num(3, 20) as f64, num(4, 1024) as i64),

@@ -23,7 +23,7 @@ pub fn call(kind: u32, args: &[u32], out: &mut [u32]) -> usize {
         return picture_calls::answer(kind, args, out);
     }
     if kind < 700 {
-        return 0;
+        return outline_calls::answer(kind, args, out);
     }
     if kind < 800 {
         return marks_calls::answer(kind, args, out);

@@ -10,13 +10,13 @@ ghost use Prim.Native.Nat.{_≤_};
 ghost use lib.ListN.{length};
 use crate::lists::lend_bytes;
 use crate::lists::lend_words;
-use crate::lists::put_bytes;
 use crate::lists::put_words;
-use packed::put;
-use packed::unpack;
+use call_words::bytes::put_bytes;
+use call_words::bytes::unpack;
+use call_words::words::many;
+use call_words::words::put;
 use regions::answer::Kept;
 use regions::answer::Region;
-use words::many;
 
 pub mod lists;
 
