@@ -12,13 +12,15 @@ mod list;
 mod marks;
 mod math;
 mod numbers_bench;
+mod outline;
+mod outline_bench;
 mod pic;
 mod ring;
 mod transform;
 use std::io::{Read, Write};
 
 const AREAS: &[&calls::Area] =
-    &[&border::AREA, &ieee::AREA, &math::AREA, &transform::AREA, &marks::AREA, &fit::AREA, &ring::AREA];
+    &[&border::AREA, &ieee::AREA, &math::AREA, &transform::AREA, &marks::AREA, &fit::AREA, &ring::AREA, &outline::AREA];
 
 /// The areas of a name, or all of them.
 fn areas(name: &str) -> Vec<&'static calls::Area> {
@@ -45,6 +47,7 @@ fn main() {
         Some("bench") if a.get(2).is_some_and(|s| s == "marks") => marks::bench(),
         Some("bench") if a.get(2).is_some_and(|s| s == "numbers") => numbers_bench::run(),
         Some("bench") if a.get(2).map(|s| s.as_str()) == Some("fit") => fit::bench(),
+        Some("bench") if a.get(2).is_some_and(|s| s == "outline") => outline_bench::run(),
         Some("bench") => bench::run(),
         Some("vectors") => areas(&a[2]).into_iter().for_each(calls::vectors),
         // compare AREA|all SEED SECONDS [MOST]: the seconds are shared by the areas

@@ -61,4 +61,5 @@ fn main() {
     area(b"marks");
     area(b"fit");
     area(b"ring");
+    area(b"outline");
 }
