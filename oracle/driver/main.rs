@@ -15,11 +15,12 @@ mod numbers_bench;
 mod outline;
 mod outline_bench;
 mod pic;
+mod ring;
 mod transform;
 use std::io::{Read, Write};
 
 const AREAS: &[&calls::Area] =
-    &[&border::AREA, &ieee::AREA, &math::AREA, &transform::AREA, &marks::AREA, &fit::AREA, &outline::AREA];
+    &[&border::AREA, &ieee::AREA, &math::AREA, &transform::AREA, &marks::AREA, &fit::AREA, &ring::AREA, &outline::AREA];
 
 /// The areas of a name, or all of them.
 fn areas(name: &str) -> Vec<&'static calls::Area> {

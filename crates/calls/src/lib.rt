@@ -5,19 +5,10 @@
 // A word is a u32: an f32 is its bits, an f64 its low and its high half, an i32 its bits, bytes
 // stand four to a word, lowest first. The answer's first word is 0, or the refusal's number alone.
 // The result is how many words of `out` were written; 0 where the call does not fit its kind.
-pub mod border;
-pub mod fit_answers;
-pub mod fit_calls;
-pub mod floats;
-pub mod ieee_calls;
-pub mod marks_calls;
-pub mod math_calls;
-pub mod transform_calls;
-pub mod words;
 
 pub fn call(kind: u32, args: &[u32], out: &mut [u32]) -> usize {
     if kind < 200 {
-        return border::answer(kind, args, out);
+        return border_calls::answer(kind, args, out);
     }
     if kind < 300 {
         return ieee_calls::answer(kind, args, out);
@@ -39,6 +30,9 @@ pub fn call(kind: u32, args: &[u32], out: &mut [u32]) -> usize {
     }
     if kind < 900 {
         return fit_calls::answer(kind, args, out);
+    }
+    if kind < 1000 {
+        return ring_calls::answer(kind, args, out);
     }
     0
 }

@@ -20,7 +20,9 @@ fn one_below(v: u8, t: u8) -> u8
 // How many bytes of a row of at most 8 are below the threshold.
 fn row_ink(row: &[u8], t: u8) -> u8
     requires { ⌜ length (now row) ≤ 8 ⌝ }
-    ensures { λ r. ⌜ (r ≡ sumTo (length (now (row .entry))) (rowBelow (now (row .entry)) t)) × (r ≤ 8) ⌝ }
+    ensures { λ r. ⌜
+        (r ≡ sumTo (length (now (row .entry))) (rowBelow (now (row .entry)) t))
+        × (r ≤ 8) ⌝ }
 {
     let mut n: u8 = 0;
     let mut i = 0;
@@ -92,7 +94,10 @@ fn mark_of(n: u8) -> u32
 pub fn mark_cells(s: &[u8], w: usize, h: usize, grid: &[u8], labels: &mut [u32])
     requires { ⌜ Levelled (now s) w h (now grid) ⌝ }
     requires { ⌜ cellsOf w h ≤ length (now labels) ⌝ }
-    ensures { λ _. ⌜ now (labels .exit) ≡ drawn (cells8 w) (cells8 h) (markAt (plane w (now (s .entry))) w h) (now (labels .entry)) ⌝ }
+    ensures { λ _. ⌜
+        now (labels .exit)
+        ≡ drawn (cells8 w) (cells8 h) (markAt (plane w (now (s .entry))) w h)
+        (now (labels .entry)) ⌝ }
 {
     let cw = region_cells(w);
     let n = region_cells(h) * cw;

@@ -28,7 +28,12 @@ pub enum Next {
 fn visit(labels: &mut [u32], stack: &mut [u32], depth: usize, j: usize, v: u32) -> Depth
     requires { ⌜ Safe (now labels) (now stack) depth ⌝ }
     requires { ⌜ (j < length (now labels)) × (length (now labels) ≤ 262144) ⌝ }
-    ensures { λ r. ⌜ Or (λ k. Step v j (now (labels .entry)) (now (stack .entry)) depth (now (labels .exit)) (now (stack .exit)) k) (now (labels .entry)) (now (stack .entry)) r ⌝ }
+    ensures { λ r. ⌜
+        Or
+        (λ k.
+        Step v j (now (labels .entry)) (now (stack .entry)) depth (now (labels .exit))
+        (now (stack .exit)) k)
+        (now (labels .entry)) (now (stack .entry)) r ⌝ }
 {
     if labels[j] != MARK {
         return Depth::At(depth);
@@ -52,7 +57,12 @@ fn visit_row(
 ) -> Depth
     requires { ⌜ Safe (now labels) (now stack) depth ⌝ }
     requires { ⌜ (b ≤ length (now labels)) × (length (now labels) ≤ 262144) × (v < MARK) ⌝ }
-    ensures { λ r. ⌜ Or (λ k. Rowed a b v (now (labels .entry)) (now (stack .entry)) depth (now (labels .exit)) (now (stack .exit)) k) (now (labels .entry)) (now (stack .entry)) r ⌝ }
+    ensures { λ r. ⌜
+        Or
+        (λ k.
+        Rowed a b v (now (labels .entry)) (now (stack .entry)) depth (now (labels .exit))
+        (now (stack .exit)) k)
+        (now (labels .entry)) (now (stack .entry)) r ⌝ }
 {
     let mut k = depth;
     let mut j = a;
@@ -92,8 +102,18 @@ fn visit_near(
     v: u32,
 ) -> Depth
     requires { ⌜ Safe (now labels) (now stack) depth ⌝ }
-    requires { ⌜ (i < length (now labels)) × (length (now labels) ≡ h * w) × (length (now labels) ≤ 262144) × (0 < w) × (v < MARK) ⌝ }
-    ensures { λ r. ⌜ Or (λ k. Neared w i v (now (labels .entry)) (now (stack .entry)) depth (now (labels .exit)) (now (stack .exit)) k) (now (labels .entry)) (now (stack .entry)) r ⌝ }
+    requires { ⌜
+        (i < length (now labels))
+        × (length (now labels) ≡ h * w)
+        × (length (now labels) ≤ 262144)
+        × (0 < w)
+        × (v < MARK) ⌝ }
+    ensures { λ r. ⌜
+        Or
+        (λ k.
+        Neared w i v (now (labels .entry)) (now (stack .entry)) depth (now (labels .exit))
+        (now (stack .exit)) k)
+        (now (labels .entry)) (now (stack .entry)) r ⌝ }
 {
     let x = i % w;
     let y = i / w;
@@ -115,8 +135,15 @@ fn visit_near(
 // The fill of the group of the cell `s` with the label `v`: true, or false where the stack was
 // full.
 fn flood(labels: &mut [u32], stack: &mut [u32], s: usize, w: usize, h: usize, v: u32) -> bool
-    requires { ⌜ (s < length (now labels)) × (length (now labels) ≡ h * w) × (length (now labels) ≤ 262144) × (0 < w) × (v < MARK) ⌝ }
-    ensures { λ r. ⌜ Fills (near w) v s (now (labels .entry)) (now (stack .entry)) (now (labels .exit)) (now (stack .exit)) r ⌝ }
+    requires { ⌜
+        (s < length (now labels))
+        × (length (now labels) ≡ h * w)
+        × (length (now labels) ≤ 262144)
+        × (0 < w)
+        × (v < MARK) ⌝ }
+    ensures { λ r. ⌜
+        Fills (near w) v s (now (labels .entry)) (now (stack .entry)) (now (labels .exit))
+        (now (stack .exit)) r ⌝ }
 {
     let Depth::At(first) = visit(labels, stack, 0, s, v) else {
         return false;
@@ -135,8 +162,15 @@ fn flood(labels: &mut [u32], stack: &mut [u32], s: usize, w: usize, h: usize, v:
 
 // The cell `s`, after `v` labels: where it is a mark, its group gets the next one.
 fn label_at(labels: &mut [u32], stack: &mut [u32], s: usize, w: usize, h: usize, v: u32) -> Next
-    requires { ⌜ (s < length (now labels)) × (length (now labels) ≡ h * w) × (length (now labels) ≤ 262144) × (0 < w) × (v ≤ 262144) ⌝ }
-    ensures { λ r. ⌜ One (near w) v s (now (labels .entry)) (now (stack .entry)) (now (labels .exit)) (now (stack .exit)) r ⌝ }
+    requires { ⌜
+        (s < length (now labels))
+        × (length (now labels) ≡ h * w)
+        × (length (now labels) ≤ 262144)
+        × (0 < w)
+        × (v ≤ 262144) ⌝ }
+    ensures { λ r. ⌜
+        One (near w) v s (now (labels .entry)) (now (stack .entry)) (now (labels .exit))
+        (now (stack .exit)) r ⌝ }
 {
     if labels[s] != MARK {
         return Next::At(v);
@@ -150,7 +184,8 @@ fn label_at(labels: &mut [u32], stack: &mut [u32], s: usize, w: usize, h: usize,
 // The labels of a grid of `h` rows of `w` cells in which MARK is an ink cell and 0 any other.
 fn label_cells(labels: &mut [u32], stack: &mut [u32], w: usize, h: usize) -> Next
     requires { ⌜ (length (now labels) ≡ h * w) × (length (now labels) ≤ 262144) × (0 < w) ⌝ }
-    ensures { λ r. ⌜ Labels w (h * w) (now (labels .entry)) (now (stack .entry)) (now (labels .exit)) r ⌝ }
+    ensures { λ r. ⌜
+        Labels w (h * w) (now (labels .entry)) (now (stack .entry)) (now (labels .exit)) r ⌝ }
 {
     let mut next: u32 = 0;
     let mut s = 0;
@@ -174,7 +209,9 @@ fn least(a: usize, b: usize) -> usize
 // are cleared, every place of them.
 pub fn label_all(labels: &mut [u32], stack: &mut [u32], w: usize, h: usize) -> Next
     requires { ⌜ (h * w ≤ length (now labels)) × (h * w ≤ 262144) × (0 < w) ⌝ }
-    ensures { λ r. ⌜ Answers w (h * w) (now (labels .entry)) (now (stack .entry)) (now (labels .exit)) (now (stack .exit)) r ⌝ }
+    ensures { λ r. ⌜
+        Answers w (h * w) (now (labels .entry)) (now (stack .entry)) (now (labels .exit))
+        (now (stack .exit)) r ⌝ }
 {
     let n = h * w;
     let m = least(n, stack.len());

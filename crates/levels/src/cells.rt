@@ -21,7 +21,9 @@ fn count_pairs(row: &[u8], even: &mut [u32; 32], odd: &mut [u32; 32])
     requires { ⌜ length (now row) ≤ 16 ⌝ }
     requires { ⌜ (length (now even) ≡ 32) × (length (now odd) ≡ 32) ⌝ }
     requires { ⌜ AtMost 240 (sums (now even) (now odd)) ⌝ }
-    ensures { λ _. ⌜ Paired (more (now (row .entry)) (now (even .entry)) (now (odd .entry))) (now (even .exit)) (now (odd .exit)) ⌝ }
+    ensures { λ _. ⌜
+        Paired (more (now (row .entry)) (now (even .entry)) (now (odd .entry)))
+        (now (even .exit)) (now (odd .exit)) ⌝ }
 {
     let mut i = 0;
     while i + 1 < row.len() {
@@ -122,7 +124,9 @@ pub struct Levels {
 fn cell_levels(s: &[u8], w: usize, h: usize, cx: usize, cy: usize) -> Levels
     requires { ⌜ Picture (now s) w h ⌝ }
     requires { ⌜ (16 * cx < w) × (16 * cy < h) ⌝ }
-    ensures { λ r. ⌜ (r .dark ≡ dark (plane w (now (s .entry))) w h cx cy) × (r .light ≡ light (plane w (now (s .entry))) w h cx cy) ⌝ }
+    ensures { λ r. ⌜
+        (r .dark ≡ dark (plane w (now (s .entry))) w h cx cy)
+        × (r .light ≡ light (plane w (now (s .entry))) w h cx cy) ⌝ }
 {
     let lx = span_of(w, cx);
     let ly = span_of(h, cy);
@@ -147,9 +151,15 @@ pub fn cells_of(n: usize) -> usize
 // The dark and light levels of every cell.
 pub fn level_cells(s: &[u8], w: usize, h: usize, darks: &mut [u32], lights: &mut [u32])
     requires { ⌜ Picture (now s) w h ⌝ }
-    requires { ⌜ (cells w * cells h ≤ length (now darks)) × (cells w * cells h ≤ length (now lights)) ⌝ }
-    ensures { λ _. ⌜ now (darks .exit) ≡ drawn (cells w) (cells h) (dark (plane w (now (s .entry))) w h) (now (darks .entry)) ⌝ }
-    ensures { λ _. ⌜ now (lights .exit) ≡ drawn (cells w) (cells h) (light (plane w (now (s .entry))) w h) (now (lights .entry)) ⌝ }
+    requires { ⌜
+        (cells w * cells h ≤ length (now darks))
+        × (cells w * cells h ≤ length (now lights)) ⌝ }
+    ensures { λ _. ⌜
+        now (darks .exit)
+        ≡ drawn (cells w) (cells h) (dark (plane w (now (s .entry))) w h) (now (darks .entry)) ⌝ }
+    ensures { λ _. ⌜
+        now (lights .exit)
+        ≡ drawn (cells w) (cells h) (light (plane w (now (s .entry))) w h) (now (lights .entry)) ⌝ }
 {
     let cw = cells_of(w);
     let n = cw * cells_of(h);

@@ -11,7 +11,8 @@ pub fn ink(s: &[u8], w: usize, h: usize, grid: &[u8], x: usize, y: usize) -> boo
     requires { ⌜ Picture (now s) w h ⌝ }
     requires { ⌜ Grid (now grid) (cells w) (cells h) ⌝ }
     requires { ⌜ (x < w) × (y < h) ⌝ }
-    ensures { λ r. ⌜ r ≡ inkOf (plane w (now (s .entry))) (plane (cells w) (now (grid .entry))) x y ⌝ }
+    ensures { λ r. ⌜
+        r ≡ inkOf (plane w (now (s .entry))) (plane (cells w) (now (grid .entry))) x y ⌝ }
 {
     let cw = cells_of(w);
     let t = grid[y / 16 * cw + x / 16];

@@ -92,7 +92,9 @@ fn fill_cell(g: &[u8], w: usize, h: usize, x: usize, y: usize) -> u8
 fn fill_pass(prev: &[u8], next: &mut [u32], w: usize, h: usize)
     requires { ⌜ Grid (now prev) w h ⌝ }
     requires { ⌜ w * h ≤ length (now next) ⌝ }
-    ensures { λ _. ⌜ now (next .exit) ≡ drawn w h (fillAt w h (plane w (now (prev .entry)))) (now (next .entry)) ⌝ }
+    ensures { λ _. ⌜
+        now (next .exit)
+        ≡ drawn w h (fillAt w h (plane w (now (prev .entry)))) (now (next .entry)) ⌝ }
     ensures { λ _. ⌜ Bytes (w * h) (now (next .exit)) ⌝ }
 {
     let n = w * h;
@@ -127,7 +129,9 @@ fn narrow(src: &[u32], dst: &mut [u8], n: usize)
 pub fn fill_passes(grid: &mut [u8], work: &mut [u32], w: usize, h: usize)
     requires { ⌜ Grid (now grid) w h ⌝ }
     requires { ⌜ Grid (now work) w h ⌝ }
-    ensures { λ _. ⌜ now (grid .exit) ≡ drawn w h (passes w h 8 (plane w (now (grid .entry)))) (now (grid .entry)) ⌝ }
+    ensures { λ _. ⌜
+        now (grid .exit)
+        ≡ drawn w h (passes w h 8 (plane w (now (grid .entry)))) (now (grid .entry)) ⌝ }
     ensures { λ _. ⌜ UntouchedPast (w * h) (now (work .entry)) (now (work .exit)) ⌝ }
 {
     let mut i: usize = 0;

@@ -65,7 +65,9 @@ fn near_count(n: usize, c: usize) -> usize
 // The greatest or the least of a row of bytes.
 fn join_row(row: &[u32], most: bool) -> u8
     requires { ⌜ Bytes (length (now row)) (now row) ⌝ }
-    ensures { λ r. ⌜ r ≡ fold (joined most) (unit most) (length (now (row .entry))) (binsOf (now (row .entry))) ⌝ }
+    ensures { λ r. ⌜
+        r ≡ fold (joined most) (unit most) (length (now (row .entry)))
+        (binsOf (now (row .entry))) ⌝ }
 {
     let mut r = unit8(most);
     let mut i = 0;
@@ -109,7 +111,9 @@ fn pool_across(src: &[u32], dst: &mut [u8], w: usize, h: usize, most: bool)
     requires { ⌜ Grid (now src) w h ⌝ }
     requires { ⌜ Bytes (w * h) (now src) ⌝ }
     requires { ⌜ w * h ≤ length (now dst) ⌝ }
-    ensures { λ _. ⌜ now (dst .exit) ≡ drawn w h (across most w (plane w (now (src .entry)))) (now (dst .entry)) ⌝ }
+    ensures { λ _. ⌜
+        now (dst .exit)
+        ≡ drawn w h (across most w (plane w (now (src .entry)))) (now (dst .entry)) ⌝ }
 {
     let n = w * h;
     let mut k = 0;
@@ -129,7 +133,9 @@ fn pool_across(src: &[u32], dst: &mut [u8], w: usize, h: usize, most: bool)
 fn pool_down(src: &[u8], dst: &mut [u32], w: usize, h: usize, most: bool)
     requires { ⌜ Grid (now src) w h ⌝ }
     requires { ⌜ w * h ≤ length (now dst) ⌝ }
-    ensures { λ _. ⌜ now (dst .exit) ≡ drawn w h (down most h (plane w (now (src .entry)))) (now (dst .entry)) ⌝ }
+    ensures { λ _. ⌜
+        now (dst .exit)
+        ≡ drawn w h (down most h (plane w (now (src .entry)))) (now (dst .entry)) ⌝ }
     ensures { λ _. ⌜ Bytes (w * h) (now (dst .exit)) ⌝ }
 {
     let n = w * h;
@@ -152,7 +158,9 @@ fn pool(g: &mut [u32], mid: &mut [u8], w: usize, h: usize, most: bool)
     requires { ⌜ Grid (now g) w h ⌝ }
     requires { ⌜ Bytes (w * h) (now g) ⌝ }
     requires { ⌜ Grid (now mid) w h ⌝ }
-    ensures { λ _. ⌜ now (g .exit) ≡ drawn w h (pooled most w h (plane w (now (g .entry)))) (now (g .entry)) ⌝ }
+    ensures { λ _. ⌜
+        now (g .exit)
+        ≡ drawn w h (pooled most w h (plane w (now (g .entry)))) (now (g .entry)) ⌝ }
     ensures { λ _. ⌜ Bytes (w * h) (now (g .exit)) ⌝ }
     ensures { λ _. ⌜ UntouchedPast (w * h) (now (mid .entry)) (now (mid .exit)) ⌝ }
 {
@@ -165,7 +173,9 @@ fn thresholds(darks: &[u32], lights: &[u32], grid: &mut [u8], n: usize)
     requires { ⌜ (n ≤ length (now darks)) × (n ≤ length (now lights)) × (n ≤ length (now grid)) ⌝ }
     requires { ⌜ Bytes n (now darks) ⌝ }
     requires { ⌜ Bytes n (now lights) ⌝ }
-    ensures { λ _. ⌜ now (grid .exit) ≡ written n (pairwise (now (darks .entry)) (now (lights .entry))) (now (grid .entry)) ⌝ }
+    ensures { λ _. ⌜
+        now (grid .exit)
+        ≡ written n (pairwise (now (darks .entry)) (now (lights .entry))) (now (grid .entry)) ⌝ }
 {
     let mut k = 0;
     while k < n {
@@ -181,7 +191,10 @@ pub fn sharp(darks: &mut [u32], lights: &mut [u32], grid: &mut [u8], w: usize, h
     requires { ⌜ Grid (now grid) w h ⌝ }
     requires { ⌜ Bytes (w * h) (now darks) ⌝ }
     requires { ⌜ Bytes (w * h) (now lights) ⌝ }
-    ensures { λ _. ⌜ now (grid .exit) ≡ drawn w h (sharp w h (plane w (now (darks .entry))) (plane w (now (lights .entry)))) (now (grid .entry)) ⌝ }
+    ensures { λ _. ⌜
+        now (grid .exit)
+        ≡ drawn w h (sharp w h (plane w (now (darks .entry))) (plane w (now (lights .entry))))
+        (now (grid .entry)) ⌝ }
     ensures { λ _. ⌜ UntouchedPast (w * h) (now (darks .entry)) (now (darks .exit)) ⌝ }
     ensures { λ _. ⌜ UntouchedPast (w * h) (now (lights .entry)) (now (lights .exit)) ⌝ }
 {

@@ -10,19 +10,18 @@ use native.Mathlib.Omega.{arith}
 use lib.Dec.{eqb, leb}
 use lib.Ieee.Order.{kept}
 use lib.ListN.{List·getD-eq-default, drop, getD, length, length-take, replicate, take}
-use lib.Seq.{drop-append-add, drop-drop, getD-take, length-take-le}
-use borrow.Fn.PlainCycle.{is}
+use lib.Seq.{drop-drop, getD-take, length-take-le}
 use Rattle.labels.proofs.InkCells.{marks-inked}
 use Rattle.labels.proofs.Labellings.{label-most}
 use Rattle.labels.specs.Labelling.{Answers, cleared, given}
 use Rattle.labels.specs.Marks.{Levelled, markAt}
 use Rattle.laws.proofs.Counts.{count-most}
 use Rattle.laws.proofs.Folds.{drop-written, getD-written, is-tab}
-use Rattle.laws.proofs.Planes.{part, plane-drawn}
+use Rattle.laws.proofs.Planes.{plane-drawn}
 use Rattle.laws.proofs.Writes.{written-ext}
+use Rattle.laws.specs.Check.{orRefuse}
 use Rattle.laws.specs.Fold.{tab, written}
 use Rattle.laws.specs.Lent.{UntouchedPast, zeros}
-use Rattle.laws.specs.Check.{orRefuse}
 use Rattle.laws.specs.Plane.{Plane, drawn, plane, rowwise}
 use Rattle.levels.specs.Level.{cells, level}
 use Rattle.levels.specs.Steps.{Picture, more}
@@ -31,7 +30,7 @@ use Rattle.regions.proofs.Cells.{grid}
 use Rattle.regions.proofs.Groups.{cell-of}
 use Rattle.regions.proofs.Pictures.{ink-inside}
 use Rattle.regions.specs.Cells.{cellLabel, cells8, cellsOf, groupsOf, inkCell, labelAt}
-use Rattle.regions.specs.Door.{answerBy, checkGrids, isSide, refusedBy}
+use Rattle.regions.specs.Door.{answerBy, checkGrids, checkPicture, isSide, refusedBy}
 use Rattle.regions.specs.Labels.{first?, label, near}
 use Rattle.labels.specs.declared.groups.Next.{Next}
 use Rattle.regions.specs.declared.answer.Kept.{Kept}
@@ -141,6 +140,19 @@ labelled-by s old w h is all = record {
 }
 
 -- ---- the checks
+-- a refusal by the picture's own checks, whatever follows these
+pub check-off : (w h bytes rest : ℕ) → (checkPicture w h bytes 0 ≡ 0 → ⊥) → checkPicture w h bytes 0 ≡ checkPicture w h bytes rest
+check-off w h bytes rest off = go (isSide w) (isSide h) (eqb bytes (w * h)) off
+  where
+    chain : Bool → Bool → Bool → ℕ → ℕ
+    chain a b c n = orRefuse a 1 (orRefuse b 1 (orRefuse c 2 n))
+
+    go : (a b c : Bool) → (chain a b c 0 ≡ 0 → ⊥) → chain a b c 0 ≡ chain a b c rest
+    go false b c off = refl
+    go true false c off = refl
+    go true true false off = refl
+    go true true true off = absurd (off refl)
+
 pub check-few : (w h bytes grid labels stack : ℕ) → checkGrids w h bytes grid labels stack ≤ 3
 check-few w h bytes grid labels stack =
     go (isSide w) (isSide h) (eqb bytes (w * h)) (leb (cells w * cells h) grid) (leb (cellsOf w h) labels) (leb (cellsOf w h) stack)
@@ -175,11 +187,3 @@ pub level-cells-few : (w h : ℕ) → cells w * cells h ≤ cellsOf w h
 level-cells-few w h =
     rw (mul-comm (cells8 h) (cells8 w))
     (mul-le-mul {n₁ = cells w} {m₁ = cells h} {n₂ = cells8 w} {m₂ = cells8 h} (omega arith) (omega arith))
-
--- the places past n, where fewer are lent
-pub past-front : (n m : ℕ) (l part : List ℕ) → m ≤ n → length part ≡ m → UntouchedPast n l (part ++ drop m l)
-past-front n m l part few same =
-    let e : n ≡ length part + (n - m) = omega arith in
-    let f : m + (n - m) ≡ n = omega arith in
-    ap (λ (k : ℕ). drop k (part ++ drop m l)) e ∙ drop-append-add part (drop m l) (n - m) ∙ drop-drop (n - m) m l
-    ∙ ap (λ (k : ℕ). drop k l) f

@@ -11,13 +11,15 @@ use Rattle.laws.specs.Plane.{plane, drawn}
 use Rattle.levels.specs.Level.{cells}
 use Rattle.regions.specs.Cells.{cells8, cellsOf, cellLabel, labelAt, groupsOf}
 
--- What the checks tell where none refuses: of the sides, the picture's bytes, and the places of the three lent lists.
-pub record Passed (w h bytes grid labels stack : ℕ) : Type 0 where
+-- What the checks tell where none refuses: of the sides and the picture's bytes, and of the places of the three lent lists.
+pub record Sides (w h bytes : ℕ) : Type 0 where
   pub w-low : 1 ≤ w
   pub w-high : w ≤ 4096
   pub h-low : 1 ≤ h
   pub h-high : h ≤ 4096
   pub count : bytes ≡ w * h
+
+pub record Places (w h grid labels stack : ℕ) : Type 0 where
   pub grids : cells w * cells h ≤ grid
   pub label : cellsOf w h ≤ labels
   pub room : cellsOf w h ≤ stack

@@ -7,6 +7,7 @@ ghost use Rattle.levels.specs.Level.{cells, level};
 ghost use Rattle.levels.specs.Steps.{Picture, Rooms};
 ghost use Rattle.regions.specs.Cells.{cells8, cellsOf};
 ghost use Rattle.regions.specs.Door.{
+  checkPicture,
   checkGrids,
   keptRegions,
   refusedBy,
@@ -16,7 +17,7 @@ ghost use Rattle.regions.specs.Door.{
   StackAfter,
 };
 ghost use Rattle.laws.specs.Lent.{UntouchedPast};
-ghost use Rattle.picture.specs.Inner.{Passed, Mapped, LabelledBy};
+ghost use Rattle.picture.specs.Inner.{Sides, Places, Mapped, LabelledBy};
 use labels::cells::mark_cells;
 use labels::cells::region_cells;
 use labels::groups::Next;
@@ -28,11 +29,11 @@ use regions::answer::PictureAnswer;
 use regions::answer::Region;
 use regions::top::regions;
 
-// The checks in order, on numbers: the sides, the picture's bytes, the places of the three lent
-// lists. The number of the first that fails, else 0.
-fn check(w: usize, h: usize, bytes: usize, grid: usize, labels: usize, stack: usize) -> u32
-    ensures { λ r. ⌜ r ≡ checkGrids w h bytes grid labels stack ⌝ }
-    ensures { λ r. ⌜ (r ≡ 0 → Passed w h bytes grid labels stack) ⌝ }
+// The checks of the picture, on numbers: its sides and bytes. The number of the first that fails,
+// else 0.
+fn check_picture(w: usize, h: usize, bytes: usize) -> u32
+    ensures { λ r. ⌜ r ≡ checkPicture w h bytes 0 ⌝ }
+    ensures { λ r. ⌜ (r ≡ 0 → Sides w h bytes) ⌝ }
 {
     if w < 1 {
         return 1;
@@ -49,6 +50,15 @@ fn check(w: usize, h: usize, bytes: usize, grid: usize, labels: usize, stack: us
     if bytes != w * h {
         return 2;
     }
+    0
+}
+
+// The checks of the lent lists, by how many places they have, where those of the picture passed.
+fn check_lists(w: usize, h: usize, bytes: usize, grid: usize, labels: usize, stack: usize) -> u32
+    requires { ⌜ Sides w h bytes ⌝ }
+    ensures { λ r. ⌜ r ≡ checkGrids w h bytes grid labels stack ⌝ }
+    ensures { λ r. ⌜ (r ≡ 0 → Places w h grid labels stack) ⌝ }
+{
     if grid < cells_of(w) * cells_of(h) {
         return 3;
     }
@@ -60,6 +70,18 @@ fn check(w: usize, h: usize, bytes: usize, grid: usize, labels: usize, stack: us
         return 3;
     }
     0
+}
+
+// All checks in order.
+fn check(w: usize, h: usize, bytes: usize, grid: usize, labels: usize, stack: usize) -> u32
+    ensures { λ r. ⌜ r ≡ checkGrids w h bytes grid labels stack ⌝ }
+    ensures { λ r. ⌜ (r ≡ 0 → Sides w h bytes × Places w h grid labels stack) ⌝ }
+{
+    let no = check_picture(w, h, bytes);
+    if no != 0 {
+        return no;
+    }
+    check_lists(w, h, bytes, grid, labels, stack)
 }
 
 // The level grid and the labels of a picture, and how many labels there are; or that a push found
@@ -75,8 +97,12 @@ fn ink_map(
     requires { ⌜ Picture (now s) w h ⌝ }
     requires { ⌜ Rooms (cells w * cells h) (now grid) (now labels) (now stack) ⌝ }
     requires { ⌜ cellsOf w h ≤ length (now labels) ⌝ }
-    ensures { λ _. ⌜ now (grid .exit) ≡ drawn (cells w) (cells h) (level (plane w (now (s .entry))) w h) (now (grid .entry)) ⌝ }
-    ensures { λ r. ⌜ Mapped (now (s .entry)) w h (now (labels .entry)) (now (stack .entry)) (now (labels .exit)) (now (stack .exit)) r ⌝ }
+    ensures { λ _. ⌜
+        now (grid .exit)
+        ≡ drawn (cells w) (cells h) (level (plane w (now (s .entry))) w h) (now (grid .entry)) ⌝ }
+    ensures { λ r. ⌜
+        Mapped (now (s .entry)) w h (now (labels .entry)) (now (stack .entry))
+        (now (labels .exit)) (now (stack .exit)) r ⌝ }
 {
     level_grid(s, w, h, grid, labels, stack);
     mark_cells(s, w, h, grid, labels);
@@ -132,9 +158,15 @@ pub fn picture(
     labels: &mut [u32],
     stack: &mut [u32],
 ) -> PictureAnswer
-    ensures answer { λ r. ⌜ r ≡ pictureAnswer (now (s .entry)) w h (length (now (grid .entry))) (length (now (labels .entry))) (length (now (stack .entry))) ⌝ }
-    ensures levels { λ r. ⌜ now (grid .exit) ≡ levelsAfter (r .refused) (now (s .entry)) w h (now (grid .entry)) ⌝ }
-    ensures labels { λ r. ⌜ now (labels .exit) ≡ labelsAfter (r .refused) (now (s .entry)) w h (now (labels .entry)) ⌝ }
+    ensures answer { λ r. ⌜
+        r ≡ pictureAnswer (now (s .entry)) w h (length (now (grid .entry)))
+        (length (now (labels .entry))) (length (now (stack .entry))) ⌝ }
+    ensures levels { λ r. ⌜
+        now (grid .exit)
+        ≡ levelsAfter (r .refused) (now (s .entry)) w h (now (grid .entry)) ⌝ }
+    ensures labels { λ r. ⌜
+        now (labels .exit)
+        ≡ labelsAfter (r .refused) (now (s .entry)) w h (now (labels .entry)) ⌝ }
     ensures stack { λ r. ⌜ StackAfter (r .refused) w h (now (stack .entry)) (now (stack .exit)) ⌝ }
 {
     let no = check(w, h, s.len(), grid.len(), labels.len(), stack.len());

@@ -28,7 +28,8 @@ fn greatest(a: usize, b: usize) -> usize
 // The box with the cell at column `x` and row `y` in it, where `is` says so.
 fn grown(b: Span, is: bool, x: usize, y: usize) -> Span
     requires { ⌜ (x < 262144) × (y < 262144) ⌝ }
-    ensures { λ r. ⌜ Grown is x y (b .x0) (b .y0) (b .x1) (b .y1) (r .x0) (r .y0) (r .x1) (r .y1) ⌝ }
+    ensures { λ r. ⌜
+        Grown is x y (b .x0) (b .y0) (b .x1) (b .y1) (r .x0) (r .y0) (r .x1) (r .y1) ⌝ }
 {
     if !is {
         return b;
@@ -45,7 +46,9 @@ fn grown(b: Span, is: bool, x: usize, y: usize) -> Span
 pub fn span_of(labels: &[u32], l: u32, w: usize, h: usize) -> Span
     requires { ⌜ Cells (now labels) w h ⌝ }
     ensures { λ r. ⌜ Small w h (r .x0) (r .y0) (r .x1) (r .y1) ⌝ }
-    ensures { λ r. ⌜ Boxed (now (labels .entry)) l w h (length (now (labels .entry))) (r .x0) (r .y0) (r .x1) (r .y1) ⌝ }
+    ensures { λ r. ⌜
+        Boxed (now (labels .entry)) l w h (length (now (labels .entry))) (r .x0) (r .y0) (r .x1)
+        (r .y1) ⌝ }
 {
     let mut b = Span {
         x0: w,

@@ -32,7 +32,9 @@ fn bump(sizes: &mut [u32], x: u32)
 pub fn tally(labels: &[u32], sizes: &mut [u32])
     requires { ⌜ length (now labels) ≤ 262144 ⌝ }
     requires { ⌜ ((c : ℕ) → getD (now labels) c 0 ≤ length (now sizes)) ⌝ }
-    ensures { λ _. ⌜ ((i : ℕ) → i < length (now (sizes .entry)) → getD (now (sizes .exit)) i 0 ≡ sizeIn (now (labels .entry)) i) ⌝ }
+    ensures { λ _. ⌜
+        ((i : ℕ) → i < length (now (sizes .entry))
+        → getD (now (sizes .exit)) i 0 ≡ sizeIn (now (labels .entry)) i) ⌝ }
 {
     clear(sizes);
     let mut c = 0;

@@ -22,7 +22,11 @@ fn region_of(
     height: usize,
 ) -> Region
     requires { ⌜ Cells (now labels) w h ⌝ }
-    requires { ⌜ (i < 262144) × (cells ≡ sizeIn (now labels) i) × (width ≤ 4096) × (height ≤ 4096) ⌝ }
+    requires { ⌜
+        (i < 262144)
+        × (cells ≡ sizeIn (now labels) i)
+        × (width ≤ 4096)
+        × (height ≤ 4096) ⌝ }
     ensures { λ r. ⌜ r ≡ regionIn (now (labels .entry)) w h width height i ⌝ }
 {
     let l = (i + 1) as u32;
@@ -52,8 +56,10 @@ fn kept_regions(
 ) -> Kept
     requires { ⌜ Cells (now labels) w h ⌝ }
     requires { ⌜ (length (now sizes) ≤ 262144) × (width ≤ 4096) × (height ≤ 4096) ⌝ }
-    requires { ⌜ ((i : ℕ) → i < length (now sizes) → getD (now sizes) i 0 ≡ sizeIn (now labels) i) ⌝ }
-    ensures { λ r. ⌜ r ≡ keptIn (now (labels .entry)) (length (now (sizes .entry))) w h width height ⌝ }
+    requires { ⌜
+        ((i : ℕ) → i < length (now sizes) → getD (now sizes) i 0 ≡ sizeIn (now labels) i) ⌝ }
+    ensures { λ r. ⌜
+        r ≡ keptIn (now (labels .entry)) (length (now (sizes .entry))) w h width height ⌝ }
 {
     let p = pick(sizes);
     let none = Region {
@@ -92,7 +98,8 @@ pub fn regions(
     requires { ⌜ Cells (now labels) w h ⌝ }
     requires { ⌜ (length (now sizes) ≤ 262144) × (width ≤ 4096) × (height ≤ 4096) ⌝ }
     requires { ⌜ ((c : ℕ) → getD (now labels) c 0 ≤ length (now sizes)) ⌝ }
-    ensures { λ r. ⌜ r ≡ keptIn (now (labels .entry)) (length (now (sizes .entry))) w h width height ⌝ }
+    ensures { λ r. ⌜
+        r ≡ keptIn (now (labels .entry)) (length (now (sizes .entry))) w h width height ⌝ }
 {
     tally(labels, sizes);
     kept_regions(labels, sizes, w, h, width, height)

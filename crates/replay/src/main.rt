@@ -60,5 +60,6 @@ fn main() {
     area(b"transform");
     area(b"marks");
     area(b"fit");
+    area(b"ring");
     area(b"outline");
 }

@@ -1,199 +1,30 @@
-use Prim.Native.Nat.{_*_, _<_, _≤_}
-use native.Mathlib.Nat.{mul-le-mul}
+-- The first refusal of the picture's checks stands whatever follows (check-off). Assumes nothing.
+use Prim.Native.Nat.{ℕ}
+use mathlib.Core.Path.{_∙_, sym}
 use native.Mathlib.Omega.{arith}
 use borrow.Author.Needs.{needs}
-use borrow.Author.Tests.{eq-eqb, le-leb, lt-leb, ne-eqb}
-use Rattle.laws.specs.Count.{count}
-use Rattle.levels.specs.Level.{cells}
-use Rattle.regions.proofs.Cells.{grid}
-use Rattle.regions.specs.Cells.{cellsOf}
-use Rattle.regions.specs.Labels.{label}
+use Rattle.picture.proofs.Outcomes.{check-off}
 use Rattle.picture.proofs.check.Statement.{statement}
 use Rattle.picture.proofs.check.Tie as tie
 
+check-picture-requires : tie.Need-check-picture-requires
+check-picture-requires c κs = search needs
+
 returns : tie.Need-returns
 returns c =
-    let a = c .before .args in
-    (simp (lt-leb 1 (a .w) (c .if1 .taken)), λ e. absurd (omega arith))
+    let a = c .before .before .args in
+    let k = c .before .check-picture in (
+      k .ensures .0 ∙ check-off (a .w) (a .h) (a .bytes) _ (λ e. c .if1 .taken (k .ensures .0 ∙ e)),
+      λ e. absurd (c .if1 .taken e),
+    )
+
+check-lists-requires : tie.Need-check-lists-requires
+check-lists-requires c κs = c .before .check-picture .ensures .1 (c .if1 .left)
 
 returns-2 : tie.Need-returns-2
 returns-2 c =
-    let a = c .before .before .args in
-    (simp (le-leb 1 (a .w) (omega arith), lt-leb (a .w) 4096 (c .if2 .taken)), λ e. absurd (omega arith))
-
-returns-3 : tie.Need-returns-3
-returns-3 c =
-    let a = c .before .before .before .args in
-    (simp (le-leb 1 (a .w) (omega arith), le-leb (a .w) 4096 (omega arith), lt-leb 1 (a .h) (c .if3 .taken)), λ e. absurd (omega arith))
-
-returns-4 : tie.Need-returns-4
-returns-4 c =
-    let a = c .before .before .before .before .args in (
-      simp (
-        le-leb 1 (a .w) (omega arith),
-        le-leb (a .w) 4096 (omega arith),
-        le-leb 1 (a .h) (omega arith),
-        lt-leb (a .h) 4096 (c .if4 .taken),
-      ),
-      λ e. absurd (omega arith),
-    )
-
-mul-if5 : tie.Need-mul-if5
-mul-if5 c = omega (
-  arith,
-  mul-le-mul {n₁ = c .before .before .before .before .args .w} {m₁ = c .before .before .before .before .args .h} {n₂ = 4096} {m₂ = 4096}
-      (omega arith) (omega arith),
-)
-
-returns-5 : tie.Need-returns-5
-returns-5 c =
-    let a = c .before .before .before .before .before .args in (
-      simp (
-        le-leb 1 (a .w) (omega arith),
-        le-leb (a .w) 4096 (omega arith),
-        le-leb 1 (a .h) (omega arith),
-        le-leb (a .h) 4096 (omega arith),
-        ne-eqb (a .bytes) (a .w * a .h) (c .if5 .taken),
-      ),
-      λ e. absurd (omega arith),
-    )
-
-cells-of-requires : tie.Need-cells-of-requires
-cells-of-requires c κs = search needs
-
-cells-of-requires-2 : tie.Need-cells-of-requires-2
-cells-of-requires-2 c κs = search needs
-
-mul-if6 : tie.Need-mul-if6
-mul-if6 c = omega (
-  arith,
-  mul-le-mul {n₁ = c .before .cells-of .result} {m₁ = c .cells-of2 .result} {n₂ = 256} {m₂ = 256} (omega arith) (omega arith),
-)
-
-returns-6 : tie.Need-returns-6
-returns-6 c =
-    let a = c .before .before .before .before .before .before .before .before .args in
-    let grid : a .grid < cells (a .w) * cells (a .h) =
-    rw (← c .before .before .cells-of .ensures, ← c .before .cells-of2 .ensures) (c .if6 .taken) in (
-      simp (
-        le-leb 1 (a .w) (omega arith),
-        le-leb (a .w) 4096 (omega arith),
-        le-leb 1 (a .h) (omega arith),
-        le-leb (a .h) 4096 (omega arith),
-        eq-eqb (a .bytes) (a .w * a .h) (omega arith),
-        lt-leb (cells (a .w) * cells (a .h)) (a .grid) grid,
-      ),
-      λ e. absurd (omega arith),
-    )
-
-region-cells-requires : tie.Need-region-cells-requires
-region-cells-requires c κs = search needs
-
-region-cells-requires-2 : tie.Need-region-cells-requires-2
-region-cells-requires-2 c κs = search needs
-
-mul-n : tie.Need-mul-n
-mul-n c = omega (
-  arith,
-  mul-le-mul {n₁ = c .before .region-cells .result} {m₁ = c .region-cells2 .result} {n₂ = 512} {m₂ = 512} (omega arith) (omega arith),
-)
-
-returns-7 : tie.Need-returns-7
-returns-7 c =
-    let a = c .before .before .before .before .before .before .before .before .before .before .before .args in
-    let grid : cells (a .w) * cells (a .h) ≤ a .grid =
-    rw (← c .before .before .before .before .before .cells-of .ensures, ← c .before .before .before .before .cells-of2 .ensures)
-    (c .before .before .before .if6 .left) in
-    let label : a .labels < cellsOf (a .w) (a .h) =
-    rw (← c .before .before .region-cells .ensures, ← c .before .region-cells2 .ensures) (c .if7 .taken) in (
-      simp (
-        le-leb 1 (a .w) (omega arith),
-        le-leb (a .w) 4096 (omega arith),
-        le-leb 1 (a .h) (omega arith),
-        le-leb (a .h) 4096 (omega arith),
-        eq-eqb (a .bytes) (a .w * a .h) (omega arith),
-        le-leb (cells (a .w) * cells (a .h)) (a .grid) grid,
-        lt-leb (cellsOf (a .w) (a .h)) (a .labels) label,
-      ),
-      λ e. absurd (omega arith),
-    )
-
-returns-8 : tie.Need-returns-8
-returns-8 c =
-    let a = c .before .before .before .before .before .before .before .before .before .before .before .before .args in
-    let grid : cells (a .w) * cells (a .h) ≤ a .grid =
-    rw (
-      ← c .before .before .before .before .before .before .cells-of .ensures,
-      ← c .before .before .before .before .before .cells-of2 .ensures,
-    ) (c .before .before .before .before .if6 .left) in
-    let label : cellsOf (a .w) (a .h) ≤ a .labels =
-    rw (← c .before .before .before .region-cells .ensures, ← c .before .before .region-cells2 .ensures) (c .before .if7 .left) in
-    let room : a .stack < cellsOf (a .w) (a .h) =
-    rw (← c .before .before .before .region-cells .ensures, ← c .before .before .region-cells2 .ensures) (c .if8 .taken) in (
-      simp (
-        le-leb 1 (a .w) (omega arith),
-        le-leb (a .w) 4096 (omega arith),
-        le-leb 1 (a .h) (omega arith),
-        le-leb (a .h) 4096 (omega arith),
-        eq-eqb (a .bytes) (a .w * a .h) (omega arith),
-        le-leb (cells (a .w) * cells (a .h)) (a .grid) grid,
-        le-leb (cellsOf (a .w) (a .h)) (a .labels) label,
-        lt-leb (cellsOf (a .w) (a .h)) (a .stack) room,
-      ),
-      λ e. absurd (omega arith),
-    )
-
-returns-9 : tie.Need-returns-9
-returns-9 c =
-    let a = c .before .before .before .before .before .before .before .before .before .before .before .before .args in
-    let grid : cells (a .w) * cells (a .h) ≤ a .grid =
-    rw (
-      ← c .before .before .before .before .before .before .cells-of .ensures,
-      ← c .before .before .before .before .before .cells-of2 .ensures,
-    ) (c .before .before .before .before .if6 .left) in
-    let label : cellsOf (a .w) (a .h) ≤ a .labels =
-    rw (← c .before .before .before .region-cells .ensures, ← c .before .before .region-cells2 .ensures) (c .before .if7 .left) in
-    let room : cellsOf (a .w) (a .h) ≤ a .stack =
-    rw (← c .before .before .before .region-cells .ensures, ← c .before .before .region-cells2 .ensures) (c .if8 .left) in (
-      simp (
-        le-leb 1 (a .w) (omega arith),
-        le-leb (a .w) 4096 (omega arith),
-        le-leb 1 (a .h) (omega arith),
-        le-leb (a .h) 4096 (omega arith),
-        eq-eqb (a .bytes) (a .w * a .h) (omega arith),
-        le-leb (cells (a .w) * cells (a .h)) (a .grid) grid,
-        le-leb (cellsOf (a .w) (a .h)) (a .labels) label,
-        le-leb (cellsOf (a .w) (a .h)) (a .stack) room,
-      ),
-      λ e. record {
-        w-low = omega arith;
-        w-high = omega arith;
-        h-low = omega arith;
-        h-high = omega arith;
-        count = omega arith;
-        grids = grid;
-        label = label;
-        room = room;
-      },
-    )
+    let r = c .check-lists .ensures in
+    (r .0, λ e. (c .before .before .check-picture .ensures .1 (c .before .if1 .left), r .1 e))
 
 pub check-spec : {M : Type 1} → statement M
-check-spec =
-    tie.close
-    (tie.spec
-    returns
-    returns-2
-    returns-3
-    returns-4
-    mul-if5
-    returns-5
-    cells-of-requires
-    cells-of-requires-2
-    mul-if6
-    returns-6
-    region-cells-requires
-    region-cells-requires-2
-    mul-n
-    returns-7
-    returns-8
-    returns-9)
+check-spec = tie.close (tie.spec check-picture-requires returns check-lists-requires returns-2)

@@ -1,13 +1,14 @@
+-- The labels of the list are the picture's, and so are the regions by them (regions-listed). Assumes nothing.
 use mathlib.Core.Path.{_∙_, _≡_, sym}
 use native.Mathlib.Nat.{mul-le-mul}
 use native.Mathlib.Omega.{arith}
 use lib.ListN.{take}
 use lib.Seq.{length-take-le}
 use borrow.Author.Needs.{needs}
-use borrow.Fn.PlainCycle.{is}
 use denote.Ref.{now}
+use Rattle.labels.proofs.Labellings.{past-front}
 use Rattle.laws.specs.Plane.{plane}
-use Rattle.picture.proofs.Outcomes.{labels-most, labels-tab, many-most, past-front}
+use Rattle.picture.proofs.Outcomes.{labels-most, labels-tab, many-most}
 use Rattle.regions.proofs.Listing.{regions-listed}
 use Rattle.regions.specs.Cells.{cells8, cellsOf}
 use Rattle.regions.specs.Listed.{keptIn}

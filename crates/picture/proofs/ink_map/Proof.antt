@@ -1,3 +1,4 @@
+-- The level grid gives the marks and these the labels (levelled-of, mapped-of). Assumes nothing.
 use native.Mathlib.Nat.{mul-le-mul}
 use native.Mathlib.Omega.{arith}
 use borrow.Author.Needs.{needs}

@@ -1,3 +1,5 @@
+-- By the number of the check, then by the answer of the labelling. At a full stack the three lists are as the contract has them, and the
+-- answer cannot be: the check has left a place for each cell. Assumes nothing.
 use mathlib.Core.Bool.{false}
 use mathlib.Core.Path.{_∙_, _≡_, ap, sym}
 use Prim.Native.Nat.{_≤_, ℕ}
@@ -41,15 +43,15 @@ ink-map-requires : tie.Need-ink-map-requires
 ink-map-requires c κs =
     let p = c .before .before .before .before .check .ensures .1 (omega arith) in
     let a = c .before .before .before .before .before .before .before .before .before .args in (
-      record { w-low = p .w-low; w-high = p .w-high; h-low = p .h-low; h-high = p .h-high; count = p .count },
+      record { w-low = p .0 .w-low; w-high = p .0 .w-high; h-low = p .0 .h-low; h-high = p .0 .h-high; count = p .0 .count },
       (
         record {
-          grids = p .grids;
-          first = le-trans (level-cells-few (a .w) (a .h)) (p .label);
+          grids = p .1 .grids;
+          first = le-trans (level-cells-few (a .w) (a .h)) (p .1 .label);
           second = le-trans
-              (level-cells-few (a .w) (a .h)) (p .room);
+              (level-cells-few (a .w) (a .h)) (p .1 .room);
         },
-        p .label,
+        p .1 .label,
       ),
     )
 
@@ -78,7 +80,7 @@ returns-2 c =
     let i = c .before .before .before .before .before .before .before .before .before .ink-map in
     let f = mapped-full (i .ensures .1) (c .before .enum-told .given .1) in
     let r = c .refusal2 .ensures in
-    (absurd (omega (arith, f .0, p .room)), (rw r (i .ensures .0), (rw r (f .1), rw r (f .2))))
+    (absurd (omega (arith, f .0, p .1 .room)), (rw r (i .ensures .0), (rw r (f .1), rw r (f .2))))
 
 count-regions-requires : tie.Need-count-regions-requires
 count-regions-requires c κs =
@@ -88,9 +90,9 @@ count-regions-requires c κs =
     .before .before .before .before .before .before .args in
     let i = c .before .before .before .before .before .before .before .before .before .before .before .ink-map in
     let m = mapped-at (i .ensures .1) (c .before .before .before .v .given .1) in (
-      record { w-low = p .w-low; w-high = p .w-high; h-low = p .h-low; h-high = p .h-high; count = p .count },
+      record { w-low = p .0 .w-low; w-high = p .0 .w-high; h-low = p .0 .h-low; h-high = p .0 .h-high; count = p .0 .count },
       (
-        (rw (i .kept .1 .1 .1 .1 .0) (p .label), rw (i .kept .1 .1 .1 .1 .1 .0) (p .room)),
+        (rw (i .kept .1 .1 .1 .1 .0) (p .1 .label), rw (i .kept .1 .1 .1 .1 .1 .0) (p .1 .room)),
         labelled-by (now (a .s)) (now (a .labels)) (a .w) (a .h) (m .0) (m .1),
       ),
     )

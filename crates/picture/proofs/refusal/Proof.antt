@@ -1,3 +1,4 @@
+-- By computation. Assumes nothing.
 use mathlib.Core.Path.{refl}
 use Rattle.regions.specs.Door.{noRegion, noRegions}
 use Rattle.picture.proofs.refusal.Statement.{statement}

@@ -1,3 +1,4 @@
+-- n counts the first j rows of the part; the measure is the rows left. Assumes nothing.
 use mathlib.Core.Path.{_≡_, sym}
 use Prim.Native.Nat.{_+_, _-_, _≤_}
 use native.Mathlib.Nat.{mul-le-mul}

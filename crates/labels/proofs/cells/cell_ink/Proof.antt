@@ -1,3 +1,4 @@
+-- The threshold is that of the level cell in which the region cell lies (cell-ink-is). Assumes nothing.
 use mathlib.Core.Path.{_∙_, sym}
 use Prim.Native.Nat.{_/_}
 use native.Mathlib.Nat.{mul-le-mul}

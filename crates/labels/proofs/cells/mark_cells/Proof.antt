@@ -1,3 +1,4 @@
+-- The first k cells are marked, and k is in column x and row y (Drawing); the measure is the cells left. Assumes nothing.
 use mathlib.Core.Path.{_∙_, ap, sym}
 use Prim.Native.Nat.{_*_, _-_, _<_, _≤_}
 use native.Mathlib.Nat.{mul-comm, mul-le-mul}

@@ -1,3 +1,4 @@
+-- By the comparison with 4. Assumes nothing.
 use borrow.Author.Tests.{le-leb, lt-leb}
 use Rattle.labels.proofs.cells.mark_of.Statement.{statement}
 use Rattle.labels.proofs.cells.mark_of.Tie as tie

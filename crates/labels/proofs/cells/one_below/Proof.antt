@@ -1,3 +1,4 @@
+-- By the comparison. Assumes nothing.
 use borrow.Author.Tests.{le-ltb, lt-ltb}
 use Rattle.labels.proofs.cells.one_below.Statement.{statement}
 use Rattle.labels.proofs.cells.one_below.Tie as tie

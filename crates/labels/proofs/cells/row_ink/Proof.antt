@@ -1,3 +1,4 @@
+-- n counts the first i bytes of the row; the measure is the bytes left. Assumes nothing.
 use mathlib.Core.Path.{_≡_, sym}
 use Prim.Native.Nat.{_+_, _-_, _≤_}
 use native.Mathlib.Omega.{arith}

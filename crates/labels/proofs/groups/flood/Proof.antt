@@ -1,3 +1,5 @@
+-- The stack holds the cells whose neighbours are still to be visited (Flow); the measure is the depth of the stack with the marks that are
+-- left. Assumes nothing.
 use mathlib.Core.Bool.{true}
 use mathlib.Core.Path.{_≡_, refl}
 use Prim.Native.Nat.{_*_, _+_, _-_}

@@ -1,3 +1,4 @@
+-- The labels of the lent part, with the places past it; or both lists cleared. Assumes nothing.
 use mathlib.Core.Path.{sym}
 use Prim.Native.Nat.{_*_}
 use native.Mathlib.Omega.{arith}

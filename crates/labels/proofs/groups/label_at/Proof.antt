@@ -1,3 +1,4 @@
+-- By the cell: no mark, its group filled, or the stack full. Assumes nothing.
 use mathlib.Core.Path.{refl}
 use borrow.Author.Needs.{needs}
 use Rattle.labels.proofs.VisitLaws.{fills-no, fills-yes}

@@ -1,3 +1,4 @@
+-- The cells before s are done and next labels are given (Labelling); the measure is the cells left. Assumes nothing.
 use Prim.Native.Nat.{_*_, _-_}
 use native.Mathlib.Omega.{arith}
 use borrow.Author.Needs.{needs}

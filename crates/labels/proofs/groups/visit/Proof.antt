@@ -1,7 +1,9 @@
+-- By the cell and by the stack: passed, pushed, or no place left. Assumes nothing.
 use Prim.Native.Nat.{_<_}
 use native.Mathlib.Omega.{arith}
 use lib.ListN.{length}
 use borrow.Author.Needs.{needs}
+use denote.Ref.{now}
 use Rattle.labels.proofs.VisitLaws.{full-short}
 use Rattle.labels.specs.Visits.{at-or, full-or, pass, push}
 use Rattle.labels.proofs.groups.visit.Statement.{statement}
@@ -17,7 +19,11 @@ returns : tie.Need-returns
 returns c = at-or (pass (c .if1 .taken))
 
 returns-2 : tie.Need-returns-2
-returns-2 c = full-or (full-short (c .before .before .before .args .labels .now) (c .before .before .before .args .stack .now) (c .before .before .before .args .depth) (c .before .before .before .args .j) (c .before .before .before .pre .0) (c .before .if1 .left) (omega (arith, c .before .before .before .pre .0 .depth)))
+returns-2 c =
+    let e = c .before .before .before in
+    full-or
+    (full-short (now (e .args .labels)) (now (e .args .stack)) (e .args .depth) (e .args .j) (e .pre .0) (c .before .if1 .left)
+    (omega (arith, e .pre .0 .depth)))
 
 mul-labels : tie.Need-mul-labels
 mul-labels c = search needs
@@ -44,7 +50,10 @@ same-length-2 : tie.Need-same-length-2
 same-length-2 c = search needs
 
 returns-3 : tie.Need-returns-3
-returns-3 c = (let h : c .before .before .before .args .depth < length (c .before .before .before .args .stack .now) = omega arith in at-or (push (c .before .if1 .left) h))
+returns-3 c =
+    let e = c .before .before .before in
+    let room : e .args .depth < length (now (e .args .stack)) = omega arith in
+    at-or (push (c .before .if1 .left) room)
 
 pub visit-spec : {M : Type 1} → statement M
 visit-spec =

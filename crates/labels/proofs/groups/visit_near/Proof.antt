@@ -1,3 +1,4 @@
+-- The rows of the window before row g are visited (Nears); the measure is the rows left. Assumes nothing.
 use mathlib.Core.Bool.{true}
 use mathlib.Core.Path.{_≡_}
 use Prim.Native.Nat.{_-_}

@@ -1,3 +1,4 @@
+-- The cells from a up to j are visited (Row); the measure is the cells left in the row. Assumes nothing.
 use Prim.Native.Nat.{_-_}
 use native.Mathlib.Omega.{arith}
 use borrow.Author.Needs.{needs}

@@ -1,3 +1,4 @@
+-- By the two sizes: more cells first, then the lower label. Assumes nothing.
 use borrow.Author.Tests.{eq-eqb, le-ltb, lt-ltb, ne-eqb}
 use Rattle.regions.specs.Kept.{aheadBy}
 use Rattle.regions.proofs.pick.ahead.Statement.{statement}

@@ -1,3 +1,4 @@
+-- By the three tests: b is taken where it is wanted, behind p and ahead of a. Assumes nothing.
 use mathlib.Core.Path.{_∙_, sym}
 use native.Mathlib.Omega.{arith}
 use lib.ListN.{getD}

@@ -1,3 +1,4 @@
+-- a is the first behind p of those below b (UpTo); the measure is the sizes left. Assumes nothing.
 use Prim.Native.Nat.{_-_, _≤_}
 use native.Mathlib.Omega.{arith}
 use lib.ListN.{length}

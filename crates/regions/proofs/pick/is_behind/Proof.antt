@@ -1,3 +1,4 @@
+-- By whether p is one of the sizes. Assumes nothing.
 use borrow.Author.Needs.{needs}
 use borrow.Author.Tests.{le-ltb, lt-ltb}
 use Rattle.regions.specs.Kept.{ahead}

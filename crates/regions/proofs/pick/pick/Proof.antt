@@ -1,3 +1,4 @@
+-- The first i kept groups are found and p is the last of them (Picking); the measure is how many of four are left. Assumes nothing.
 use mathlib.Core.Path.{_∙_, _≡_, refl}
 use Prim.Native.Nat.{_-_, _≤_}
 use native.Mathlib.Omega.{arith}

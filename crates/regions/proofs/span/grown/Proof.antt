@@ -1,3 +1,4 @@
+-- By whether the cell belongs to the box. Assumes nothing.
 use mathlib.Core.Path.{refl}
 use borrow.Author.Needs.{needs}
 use borrow.Author.Tests.{not-false, not-true}

@@ -1,3 +1,4 @@
+-- The box is that of the first c cells, and c is in column x and row y (Spanning); the measure is the cells left. Assumes nothing.
 use Prim.Native.Nat.{_-_}
 use native.Mathlib.Omega.{arith}
 use lib.ListN.{length}

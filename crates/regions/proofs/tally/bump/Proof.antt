@@ -1,3 +1,4 @@
+-- By the label: 0 counts nothing. Assumes nothing.
 use Prim.Native.Nat.{_-_}
 use native.Mathlib.Omega.{arith}
 use borrow.Author.Needs.{needs}

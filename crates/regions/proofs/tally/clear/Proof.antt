@@ -1,3 +1,4 @@
+-- The first i places are 0 (Cleared); the measure is the places left. Assumes nothing.
 use mathlib.Core.Path.{refl}
 use Prim.Native.Nat.{_-_}
 use native.Mathlib.Omega.{arith}

@@ -1,3 +1,4 @@
+-- The counters count the first c cells (Tallied); the measure is the cells left. Assumes nothing.
 use Prim.Native.Nat.{_-_, _≤_}
 use native.Mathlib.Omega.{arith}
 use lib.ListN.{length}

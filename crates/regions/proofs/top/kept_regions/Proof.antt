@@ -1,3 +1,4 @@
+-- The first i regions are listed and the places past them hold none (Listing); the measure is the regions left. Assumes nothing.
 use mathlib.Core.Path.{_∙_, _≡_, ap}
 use Prim.Native.Nat.{_-_, _≤_}
 use native.Mathlib.Omega.{arith}

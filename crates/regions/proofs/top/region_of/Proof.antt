@@ -1,3 +1,4 @@
+-- The region of a label from its count and its box (region-is). Assumes nothing.
 use native.Mathlib.Numerals.{add-one}
 use borrow.Author.Needs.{needs}
 use denote.Ref.{now}

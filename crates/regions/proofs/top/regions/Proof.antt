@@ -1,3 +1,4 @@
+-- Counters first, then the regions by them. Assumes nothing.
 use mathlib.Core.Path.{_∙_, ap}
 use Prim.Native.Nat.{ℕ}
 use native.Mathlib.Omega.{arith}

@@ -1,0 +1,24 @@
+-- The ring door's answer, as document 01 has it under "Trace" and "Doors and their checks". Definitions only. Assumes nothing.
+use Prim.Native.Nat.{ℕ, zero, suc}
+use mathlib.Core.List.{List}
+use lib.Ieee.{Float}
+use lib.ListN.{length}
+use Rattle.ring.specs.Checks.{checkRing}
+use Rattle.ring.specs.Trace.{shortTrace, attemptOf}
+use Rattle.ring.specs.declared.door.Answer.{Answer}
+use Rattle.ring.specs.declared.door.Outcome.{Outcome}
+use Rattle.ring.specs.declared.door.Outcome.the-variants.{Given, Refused}
+
+-- The trace where no check fails, else the number of the first that does, beside a trace of nothing.
+unfoldable pub answerBy : ℕ → List ℕ → ℕ → ℕ → List Float → ℕ → Answer
+answerBy zero gray w h s most = record { outcome = Given; trace = attemptOf gray w h s most }
+answerBy (suc n) gray w h s most = record { outcome = Refused (suc n); trace = shortTrace 0 }
+
+-- What the door answers; a, b and c are the lengths of the working lists.
+unfoldable pub answerOf : List ℕ → ℕ → ℕ → List Float → ℕ → ℕ → ℕ → ℕ → Answer
+answerOf gray w h s most a b c = answerBy (checkRing w h (length gray) s a b c most) gray w h s most
+
+-- How many places of a working list a call may write: as many as there are numbers, and none where it refuses.
+unfoldable pub neededOf : Outcome → List Float → ℕ
+neededOf Given s = length s
+neededOf (Refused n) s = 0

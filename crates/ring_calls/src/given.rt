@@ -1,0 +1,61 @@
+// Quads, lenses and transforms from the words of a call.
+ghost use Prim.Native.Nat.{_≤_};
+use hull::points::Point;
+use hull::points::Quad;
+use lens::straight::Lens;
+use transform::Transform;
+use words::floats;
+
+// The point whose coordinates are the words at k and after it.
+fn point(args: &[u32], k: usize) -> Point
+    requires { ⌜ k ≤ 100 ⌝ }
+{
+    Point {
+        x: floats::at32(args, k),
+        y: floats::at32(args, k + 1),
+    }
+}
+
+// The quad of the eight words from k on.
+pub fn quad(args: &[u32], k: usize) -> Quad
+    requires { ⌜ k ≤ 90 ⌝ }
+{
+    let a = point(args, k);
+    let b = point(args, k + 2);
+    let c = point(args, k + 4);
+    let d = point(args, k + 6);
+    Quad {
+        a: a,
+        b: b,
+        c: c,
+        d: d,
+    }
+}
+
+// The lens of the three words from k on.
+pub fn lens(args: &[u32], k: usize) -> Lens
+    requires { ⌜ k ≤ 90 ⌝ }
+{
+    Lens {
+        x: floats::at32(args, k),
+        y: floats::at32(args, k + 1),
+        k: floats::at32(args, k + 2),
+    }
+}
+
+// The transform of the first 22 words.
+pub fn map(args: &[u32]) -> Transform {
+    Transform {
+        m0: floats::at64(args, 0),
+        m1: floats::at64(args, 1),
+        m2: floats::at64(args, 2),
+        m3: floats::at64(args, 3),
+        m4: floats::at64(args, 4),
+        m5: floats::at64(args, 5),
+        m6: floats::at64(args, 6),
+        m7: floats::at64(args, 7),
+        cx: floats::at64(args, 8),
+        cy: floats::at64(args, 9),
+        kappa: floats::at64(args, 10),
+    }
+}
