@@ -20,7 +20,7 @@ pub fn call(kind: u32, args: &[u32], out: &mut [u32]) -> usize {
         return transform_calls::answer(kind, args, out);
     }
     if kind < 600 {
-        return 0;
+        return picture_calls::answer(kind, args, out);
     }
     if kind < 700 {
         return outline_calls::answer(kind, args, out);
