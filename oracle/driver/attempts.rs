@@ -156,10 +156,10 @@ fn wild_list(r: &mut Rng) -> Case {
 /// A square whose top edge lies on the middle row, its corners cut a little: where the second pass of the lens takes
 /// other corners than the first, an edge runs through the picture's middle and the lens is a NaN.
 fn on_row(r: &mut Rng) -> Case {
-    let side = 60.0 + 2.0 * r.below(30) as f64;
-    let w = 200 + 2 * r.below(20) as u32;
-    let (cx, cy) = (w as f64 / 2.0, 100.0);
-    let k = (r.unit() - 0.5) * 1e-5;
+    let side = 40.0 + 2.0 * r.below(30) as f64;
+    let w = 60 + 2 * r.below(20) as u32;
+    let (cx, cy) = (w as f64 / 2.0, 30.0);
+    let k = (r.unit() - 0.5) * 2e-5;
     let (h, n) = (side / 2.0, side as usize);
     let down = 0.25 + r.unit();
     let cut = down * (0.8 + 0.6 * r.unit());
@@ -178,7 +178,7 @@ fn on_row(r: &mut Rng) -> Case {
         ((cx + p.0 * f) as f32, (cy + p.1 * f) as f32)
     };
     let points: Vec<P> = raw.iter().map(bent).collect();
-    case(Pic::new(w, 200, 90), &points, 2)
+    case(Pic::new(w, 60, 90), &points, 2)
 }
 
 /// A case at random, of a named kind.
@@ -272,6 +272,17 @@ pub fn rooms(c: &Case, r: &mut Rng) -> [u32; 3] {
     [0; 3].map(|_| if r.chance(0.02) { n.saturating_sub(1) } else { (n + r.below(4) as u32).min(32770) })
 }
 
+/// How an estimate of the lens ends, by the last line of `lens_passes`.
+const ENDS: [(&str, &str); 7] = [
+    ("no quad", "no quad"),
+    ("short", "a short edge"),
+    ("thin", "few points"),
+    ("fit", "no fit"),
+    ("den", "no weight"),
+    ("disagree", "edges disagree"),
+    ("below", "below the least"),
+];
+
 /// The ways through the door that a case takes.
 fn ways(c: &Case, rooms: [u32; 3]) -> Vec<String> {
     let mut o: Vec<String> = Vec::new();
@@ -284,6 +295,13 @@ fn ways(c: &Case, rooms: [u32; 3]) -> Vec<String> {
     let raw = ring::quad(&ring::convex_hull(&points));
     let lens = ring::estimate_lens(&points, raw, (c.w as f32 / 2.0, c.h as f32 / 2.0));
     add(if lens.2.is_nan() { "lens NaN" } else if lens.2 > 0.0 { "lens above 0" } else if lens.2 < 0.0 { "lens below 0" } else { "no lens" });
+    let (log, ..) = crate::att::lens_passes(&points, raw, (c.w as f32 / 2.0, c.h as f32 / 2.0));
+    let end = log.last().map_or("", |s| s.as_str());
+    for (sign, name) in ENDS {
+        if end.contains(sign) {
+            add(&format!("estimate: {name}, pass {}", if end.contains("pass 1") { 2 } else { 1 }));
+        }
+    }
     if t.quad.is_none() {
         add("no quad");
         return o;
@@ -373,21 +391,21 @@ fn random(r: &mut Rng) -> Call {
     if l.want.len() < 16000 && r.chance(0.3) { l } else { trace(&c, rooms) }
 }
 
-/// Three small cases of each kind and of each way through the door, and their working lists.
+/// Two small cases of each kind and of each way through the door, and their working lists.
 fn stored() -> Vec<Call> {
     let mut o = Vec::new();
     let mut met: BTreeMap<String, u64> = BTreeMap::new();
-    for i in 0..1500 {
+    for i in 0..2500 {
         let mut r = Rng(910 + i);
         let (kind, c) = some(&mut r, 110);
         let rooms = rooms(&c, &mut r);
         let call = trace(&c, rooms);
-        if call.args.len() > 6000 {
+        if call.args.len() > 4000 {
             continue;
         }
         let mut all = ways(&c, rooms);
         all.push(kind.to_string());
-        if all.iter().all(|w| met.get(w).is_some_and(|&n| n >= 3)) {
+        if all.iter().all(|w| met.get(w).is_some_and(|&n| n >= 2)) {
             continue;
         }
         all.into_iter().for_each(|w| *met.entry(w).or_default() += 1);
