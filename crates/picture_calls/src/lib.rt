@@ -1,6 +1,6 @@
 // Calls of the picture door by number, words in and words out, as crate `calls` has them: w, h, n
 // bytes, lent lists of g, l and k places, then the bytes.
-//     500 the answer     0, all, kept, of each of four regions label, cells, x0, y0, x1, y1; or 1..3
+//     500 the answer     1 to 3; or 0, all, kept, of four regions label, cells, x0, y0, x1, y1
 //     501 what is left   0, the refusal, the g bytes of the grid, the l labels, the k places of the
 //                        stack, those that an accepted call needs as 0
 // At most 25,600 bytes, 128 places of the grid, 512 of either list. Before the call place k of the

@@ -69,7 +69,9 @@ array-share-prefix-s c = search needs
 slice-aggregate-made : tie.Need-slice-aggregate-made
 slice-aggregate-made c =
     let u = c .before .before .unpack in
-    sym (length-take-le (c .before .before .before .before .before .before .before .before .before .before .before .before .before .before .before .before .many .result) (u .last .1 .0) (omega (arith, u .kept .1 .0)))
+    let m = c .before .before .before .before .before .before .before .before in
+    let n = m .before .before .before .before .before .before .before .before .many .result in
+    sym (length-take-le n (u .last .1 .0) (omega (arith, u .kept .1 .0)))
 
 shared-slice-read-many-5 : tie.Need-shared-slice-read-many-5
 shared-slice-read-many-5 c = search needs

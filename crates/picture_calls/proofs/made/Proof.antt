@@ -22,7 +22,8 @@ array-borrow-prefix-grid c = search needs
 slice-aggregate-run : tie.Need-slice-aggregate-run
 slice-aggregate-run c =
     let r = c .before .before .before .grid-room in
-    sym (length-take-le (c .before .before .before .before .before .before .args .g) (r .result) (omega (arith, r .ensures, c .before .before .before .before .before .before .pre)))
+    let e = c .before .before .before .before .before .before in
+    sym (length-take-le (e .args .g) (r .result) (omega (arith, r .ensures, e .pre)))
 
 array-borrow-prefix-labels : tie.Need-array-borrow-prefix-labels
 array-borrow-prefix-labels c = search needs
@@ -30,7 +31,8 @@ array-borrow-prefix-labels c = search needs
 slice-aggregate-run-2 : tie.Need-slice-aggregate-run-2
 slice-aggregate-run-2 c =
     let r = c .before .before .before .list-room in
-    sym (length-take-le (c .before .before .before .before .before .before .before .args .l) (r .result) (omega (arith, r .ensures, c .before .before .before .before .before .before .before .pre)))
+    let e = c .before .before .before .before .before .before .before in
+    sym (length-take-le (e .args .l) (r .result) (omega (arith, r .ensures, e .pre)))
 
 array-borrow-prefix-stack : tie.Need-array-borrow-prefix-stack
 array-borrow-prefix-stack c = search needs
@@ -38,7 +40,8 @@ array-borrow-prefix-stack c = search needs
 slice-aggregate-run-3 : tie.Need-slice-aggregate-run-3
 slice-aggregate-run-3 c =
     let r = c .before .before .before .list-room2 in
-    sym (length-take-le (c .before .before .before .before .before .before .before .before .args .k) (r .result) (omega (arith, r .ensures, c .before .before .before .before .before .before .before .before .pre)))
+    let e = c .before .before .before .before .before .before .before .before in
+    sym (length-take-le (e .args .k) (r .result) (omega (arith, r .ensures, e .pre)))
 
 run-requires : tie.Need-run-requires
 run-requires c κs =

@@ -39,11 +39,14 @@ needed-requires c κs = search needs
 
 left-requires : tie.Need-left-requires
 left-requires c κs =
-    let p = c .before .before .before .before .before .before .before .before .before .before .before .before .picture .kept in
-    let e = c .before .before .before .before .before .before .before .before .before .before .before .before .before .before .before .before .before .before .before .before .before .before .before .before .before .before .before .before .before .before .before .before .before .pre in (
-      omega (arith, p .1 .1 .1 .0, c .before .before .before .before .before .before .before .before .before .before .before .before .before .before .before .before .before .before .before .before .before .before .before .before .before .before .lend-bytes .kept .0, e),
-      omega (arith, p .1 .1 .1 .1 .0, c .before .before .before .before .before .before .before .before .before .before .before .before .before .before .before .before .before .before .before .before .before .before .lend-words .kept .0, e),
-      omega (arith, p .1 .1 .1 .1 .1 .0, c .before .before .before .before .before .before .before .before .before .before .before .before .before .before .before .before .before .before .lend-words2 .kept .0, e),
+    let d = c .before .before .before .before .before .before .before .before .before .before .before .before in
+    let p = d .picture .kept in
+    let l = d .before .before .before .before .before .before .before .before .before .before in
+    let g = l .before .before .before .before in
+    let e = g .before .before .before .before .before .before .before .pre in (
+      omega (arith, p .1 .1 .1 .0, g .lend-bytes .kept .0, e),
+      omega (arith, p .1 .1 .1 .1 .0, l .lend-words .kept .0, e),
+      omega (arith, p .1 .1 .1 .1 .1 .0, d .before .before .before .before .before .before .lend-words2 .kept .0, e),
     )
 
 same-length-5 : tie.Need-same-length-5
