@@ -62,4 +62,5 @@ fn main() {
     area(b"fit");
     area(b"ring");
     area(b"outline");
+    area(b"listing");
 }
