@@ -12,13 +12,16 @@ mod list;
 mod marks;
 mod math;
 mod numbers_bench;
+mod outline;
+mod outline_bench;
 mod pic;
+mod picture;
 mod ring;
 mod transform;
 use std::io::{Read, Write};
 
 const AREAS: &[&calls::Area] =
-    &[&border::AREA, &ieee::AREA, &math::AREA, &transform::AREA, &marks::AREA, &fit::AREA, &ring::AREA];
+    &[&border::AREA, &ieee::AREA, &math::AREA, &transform::AREA, &picture::AREA, &marks::AREA, &fit::AREA, &ring::AREA, &outline::AREA];
 
 /// The areas of a name, or all of them.
 fn areas(name: &str) -> Vec<&'static calls::Area> {
@@ -43,9 +46,13 @@ fn main() {
         Some("calc") => calc::run(),
         Some("fuzz") => fuzz::run(num(2, 1), num(3, 10000)),
         Some("bench") if a.get(2).is_some_and(|s| s == "marks") => marks::bench(),
+        Some("bench") if a.get(2).is_some_and(|s| s == "picture") => picture::bench(),
         Some("bench") if a.get(2).is_some_and(|s| s == "numbers") => numbers_bench::run(),
         Some("bench") if a.get(2).map(|s| s.as_str()) == Some("fit") => fit::bench(),
+        Some("bench") if a.get(2).is_some_and(|s| s == "outline") => outline_bench::run(),
         Some("bench") => bench::run(),
+        // wide SEED SECONDS [SIDE]: the picture door through its C function
+        Some("wide") => picture::wide(num(2, 1), num(3, 20) as f64, num(4, 1024) as i64),
         Some("vectors") => areas(&a[2]).into_iter().for_each(calls::vectors),
         // compare AREA|all SEED SECONDS [MOST]: the seconds are shared by the areas
         Some("compare") => {
@@ -54,7 +61,7 @@ fn main() {
             which.into_iter().for_each(|x| calls::compare(x, num(3, 1), seconds, num(5, u64::MAX)));
         }
         _ => {
-            eprintln!("usage: oracle traylist|dump|attempt|attempt-verbose|calc|fuzz SEED N|bench|vectors AREA|compare AREA|all SEED SECONDS [MOST]");
+            eprintln!("usage: oracle traylist|dump|attempt|attempt-verbose|calc|fuzz SEED N|bench|vectors AREA|compare AREA|all SEED SECONDS [MOST]|wide SEED SECONDS [SIDE]");
             std::process::exit(2);
         }
     }

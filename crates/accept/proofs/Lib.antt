@@ -1,1 +1,2 @@
 pub mod BestScores
+pub mod Controls

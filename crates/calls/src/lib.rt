@@ -19,8 +19,11 @@ pub fn call(kind: u32, args: &[u32], out: &mut [u32]) -> usize {
     if kind < 500 {
         return transform_calls::answer(kind, args, out);
     }
+    if kind < 600 {
+        return picture_calls::answer(kind, args, out);
+    }
     if kind < 700 {
-        return 0;
+        return outline_calls::answer(kind, args, out);
     }
     if kind < 800 {
         return marks_calls::answer(kind, args, out);

@@ -3,6 +3,7 @@ pub mod fits;
 pub mod marks_exports;
 pub mod numbers;
 pub mod outlines;
+pub mod pictures;
 
 // One entry by its number (see crate `calls`): the words of its answer, first in `out`, and how
 // many.

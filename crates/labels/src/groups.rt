@@ -76,6 +76,33 @@ fn visit_row(
     Depth::At(k)
 }
 
+// The visits of the cells of row `g` from column `x0` up to `x1`, in rows of `w` cells.
+fn visit_line(
+    labels: &mut [u32],
+    stack: &mut [u32],
+    depth: usize,
+    g: usize,
+    w: usize,
+    x0: usize,
+    x1: usize,
+    v: u32,
+) -> Depth
+    requires { ⌜ Safe (now labels) (now stack) depth ⌝ }
+    requires { ⌜
+        (g * w + x1 ≤ length (now labels))
+        × (x0 ≤ x1)
+        × (length (now labels) ≤ 262144)
+        × (v < MARK) ⌝ }
+    ensures { λ r. ⌜
+        Or
+        (λ k.
+        Rowed (g * w + x0) (g * w + x1) v (now (labels .entry)) (now (stack .entry)) depth
+        (now (labels .exit)) (now (stack .exit)) k)
+        (now (labels .entry)) (now (stack .entry)) r ⌝ }
+{
+    visit_row(labels, stack, depth, g * w + x0, g * w + x1, v)
+}
+
 // Three less, and 0 where that is below 0.
 fn low(x: usize) -> usize
     ensures { λ r. ⌜ r ≡ x - 3 ⌝ }
@@ -123,7 +150,7 @@ fn visit_near(
     let mut k = depth;
     let mut g = low(y);
     while g < y1 {
-        let Depth::At(next) = visit_row(labels, stack, k, g * w + x0, g * w + x1, v) else {
+        let Depth::At(next) = visit_line(labels, stack, k, g, w, x0, x1, v) else {
             return Depth::Full;
         };
         k = next;

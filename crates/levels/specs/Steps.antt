@@ -8,7 +8,7 @@ use lib.Ieee.{odd}
 use lib.ListN.{getD, length}
 use Rattle.laws.specs.Fold.{fold}
 use Rattle.laws.specs.Plane.{Plane, boxRow}
-use Rattle.levels.specs.Level.{countList, from3, many3}
+use Rattle.levels.specs.Level.{countList, from3, inBin, many3}
 use Rattle.margin.specs.Threshold.{threshold}
 
 -- A picture of width w and height h, row by row.
@@ -49,6 +49,11 @@ pub record Within (s : List ℕ) (w x0 y0 lx ly : ℕ) : Type 0 where
 pub record Bins (f : ℕ → ℕ) (l : List ℕ) : Type 0 where
   pub many : length l ≡ 32
   pub counts : (b : ℕ) → b < 32 → getD l b 0 ≡ f b
+
+-- 32 bins with one more in the bin of the byte v.
+pub record Counted (v : ℕ) (old new : List ℕ) : Type 0 where
+  pub many : length new ≡ 32
+  pub counts : (b : ℕ) → b < 32 → getD new b 0 ≡ getD old b 0 + inBin b v
 
 -- Two times 32 bins in which f is counted by turns.
 pub record Paired (f : ℕ → ℕ) (even odd : List ℕ) : Type 0 where

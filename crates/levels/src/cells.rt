@@ -13,7 +13,18 @@ ghost use Rattle.levels.specs.Steps.{
   sums,
   more,
   Bytes,
+  Counted,
 };
+
+// Adds a byte to bins.
+fn count_one(bins: &mut [u32; 32], v: u8)
+    requires { ⌜ length (now bins) ≡ 32 ⌝ }
+    requires { ⌜ AtMost 256 (binsOf (now bins)) ⌝ }
+    ensures { λ _. ⌜ Counted v (now (bins .entry)) (now (bins .exit)) ⌝ }
+{
+    let b = (v / 8) as usize;
+    bins[b] += 1;
+}
 
 // Adds the bytes of a row of at most 16 pixels to two arrays of bins, by turns: two stores in a
 // row never wait for each other.
@@ -27,15 +38,12 @@ fn count_pairs(row: &[u8], even: &mut [u32; 32], odd: &mut [u32; 32])
 {
     let mut i = 0;
     while i + 1 < row.len() {
-        let a = (row[i] / 8) as usize;
-        even[a] += 1;
-        let b = (row[i + 1] / 8) as usize;
-        odd[b] += 1;
+        count_one(even, row[i]);
+        count_one(odd, row[i + 1]);
         i += 2;
     }
     if i < row.len() {
-        let a = (row[i] / 8) as usize;
-        even[a] += 1;
+        count_one(even, row[i]);
     }
 }
 

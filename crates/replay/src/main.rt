@@ -58,7 +58,9 @@ fn main() {
     area(b"ieee");
     area(b"math");
     area(b"transform");
+    area(b"picture");
     area(b"marks");
     area(b"fit");
     area(b"ring");
+    area(b"outline");
 }

@@ -53,7 +53,10 @@ returns-2 : tie.Need-returns-2
 returns-2 c =
     let a = c .before .before .before .before .before .before .args in
     let grid : cells (a .w) * cells (a .h) ≤ a .grid =
-    rw (← c .before .before .before .before .before .cells-of .ensures, ← c .before .before .before .before .cells-of2 .ensures) (c .before .before .before .if1 .left) in
+    rw (
+      ← c .before .before .before .before .before .cells-of .ensures,
+      ← c .before .before .before .before .cells-of2 .ensures,
+    ) (c .before .before .before .if1 .left) in
     let label : a .labels < cellsOf (a .w) (a .h) =
     rw (← c .before .before .region-cells .ensures, ← c .before .region-cells2 .ensures) (c .if2 .taken) in (
       simp (
@@ -72,7 +75,10 @@ returns-3 : tie.Need-returns-3
 returns-3 c =
     let a = c .before .before .before .before .before .before .before .args in
     let grid : cells (a .w) * cells (a .h) ≤ a .grid =
-    rw (← c .before .before .before .before .before .before .cells-of .ensures, ← c .before .before .before .before .before .cells-of2 .ensures) (c .before .before .before .before .if1 .left) in
+    rw (
+      ← c .before .before .before .before .before .before .cells-of .ensures,
+      ← c .before .before .before .before .before .cells-of2 .ensures,
+    ) (c .before .before .before .before .if1 .left) in
     let label : cellsOf (a .w) (a .h) ≤ a .labels =
     rw (← c .before .before .before .region-cells .ensures, ← c .before .before .region-cells2 .ensures) (c .before .if2 .left) in
     let room : a .stack < cellsOf (a .w) (a .h) =
@@ -94,7 +100,10 @@ returns-4 : tie.Need-returns-4
 returns-4 c =
     let a = c .before .before .before .before .before .before .before .args in
     let grid : cells (a .w) * cells (a .h) ≤ a .grid =
-    rw (← c .before .before .before .before .before .before .cells-of .ensures, ← c .before .before .before .before .before .cells-of2 .ensures) (c .before .before .before .before .if1 .left) in
+    rw (
+      ← c .before .before .before .before .before .before .cells-of .ensures,
+      ← c .before .before .before .before .before .cells-of2 .ensures,
+    ) (c .before .before .before .before .if1 .left) in
     let label : cellsOf (a .w) (a .h) ≤ a .labels =
     rw (← c .before .before .before .region-cells .ensures, ← c .before .before .region-cells2 .ensures) (c .before .if2 .left) in
     let room : cellsOf (a .w) (a .h) ≤ a .stack =

@@ -46,50 +46,15 @@ loop-holds c =
       rows = rw (c .low2 .ensures) (rows-begin _ _ _ _ _ _ _ _ _);
     }
 
-mul-visit-row : tie.Need-mul-visit-row Inv-loop μ-loop
-mul-visit-row c =
+visit-line-requires : tie.Need-visit-line-requires Inv-loop μ-loop
+visit-line-requires c κs =
     let e = c .before .before .before .before .before .before .before .before .before .before in
     let q = c .before .before .before .loop in
     let b = row-within (q .g) (e .args .h) (e .args .w) (c .before .before .before .before .before .before .high .result) (omega arith)
     (omega (arith, q .inv .right)) in
-    let m = mod-lt (e .args .i) {m = e .args .w} (omega arith) in
-    omega arith
-
-add-visit-row : tie.Need-add-visit-row Inv-loop μ-loop
-add-visit-row c =
-    let e = c .before .before .before .before .before .before .before .before .before .before in
-    let q = c .before .before .before .loop in
-    let b = row-within (q .g) (e .args .h) (e .args .w) (c .before .before .before .before .before .before .high .result) (omega arith)
-    (omega (arith, q .inv .right)) in
-    let m = mod-lt (e .args .i) {m = e .args .w} (omega arith) in
-    omega arith
-
-mul-visit-row-2 : tie.Need-mul-visit-row-2 Inv-loop μ-loop
-mul-visit-row-2 c =
-    let e = c .before .before .before .before .before .before .before .before .before .before in
-    let q = c .before .before .before .loop in
-    let b = row-within (q .g) (e .args .h) (e .args .w) (c .before .before .before .before .before .before .high .result) (omega arith)
-    (omega (arith, q .inv .right)) in
-    let m = mod-lt (e .args .i) {m = e .args .w} (omega arith) in
-    omega arith
-
-add-visit-row-2 : tie.Need-add-visit-row-2 Inv-loop μ-loop
-add-visit-row-2 c =
-    let e = c .before .before .before .before .before .before .before .before .before .before in
-    let q = c .before .before .before .loop in
-    let b = row-within (q .g) (e .args .h) (e .args .w) (c .before .before .before .before .before .before .high .result) (omega arith)
-    (omega (arith, q .inv .right)) in
-    let m = mod-lt (e .args .i) {m = e .args .w} (omega arith) in
-    omega arith
-
-visit-row-requires : tie.Need-visit-row-requires Inv-loop μ-loop
-visit-row-requires c κs =
-    let e = c .before .before .before .before .before .before .before .before .before .before in
-    let q = c .before .before .before .loop in
-    let b = row-within (q .g) (e .args .h) (e .args .w) (c .before .before .before .before .before .before .high .result) (omega arith)
-    (omega (arith, q .inv .right)) in (
+    let m = mod-lt (e .args .i) {m = e .args .w} (omega arith) in (
       run-safe (e .args .v) (λ p. omega arith) (λ j. near (e .args .w) (e .args .i) j ≡ true) (q .inv .rows .ran) (e .pre .0),
-      (omega (arith, q .inv .rows .same), omega (arith, q .inv .rows .same), omega arith),
+      (omega (arith, q .inv .rows .same), omega (arith, q .inv .left, q .inv .right), omega (arith, q .inv .rows .same), omega arith),
     )
 
 enum-known-next : tie.Need-enum-known-next Inv-loop μ-loop
@@ -109,7 +74,7 @@ returns c =
     let q = c .before .before .before .before .before .before .before .before .before .before .loop .inv .rows in
     full-or (omega (
       arith,
-      or-full (c .before .before .before .before .before .before .visit-row .ensures) (c .enum-told .given .1),
+      or-full (c .before .before .before .before .before .before .visit-line .ensures) (c .enum-told .given .1),
       q .same,
       q .same-stack,
     ))
@@ -125,7 +90,7 @@ loop-again c =
     let e = c .before .before .before .before .before .before .before .before .before .before .before .before .before .before .before
     .before .before .before in
     let q = c .before .before .before .before .before .before .before .before .before .before .before .loop in
-    let r = c .before .before .before .before .before .before .before .visit-row in
+    let r = c .before .before .before .before .before .before .before .visit-line in
     let t = or-at (r .ensures) (c .before .next .given .1) in
     record {
       left = q .inv .left;
@@ -171,11 +136,7 @@ visit-near-spec =
     high-requires-2
     low-requires-2
     loop-holds
-    mul-visit-row
-    add-visit-row
-    mul-visit-row-2
-    add-visit-row-2
-    visit-row-requires
+    visit-line-requires
     enum-known-next
     enum-told
     same-length

@@ -1,0 +1,17 @@
+-- `call_words::floats::bits32` meets its contract. Assumes nothing.
+use Rattle.ieee.proofs.Tests.{ne-no-nan}
+use borrow.Author.Needs.{needs}
+use Rattle.call_words.proofs.floats.bits32.Statement.{statement}
+use Rattle.call_words.proofs.floats.bits32.Tie as tie
+
+returns : tie.Need-returns
+returns c = search needs
+
+float-to-bits-result : tie.Need-float-to-bits-result
+float-to-bits-result c = ne-no-nan _ (c .if1 .left)
+
+returns-2 : tie.Need-returns-2
+returns-2 c = search needs
+
+pub bits32-spec : {M : Type 1} → statement M
+bits32-spec = tie.close (tie.spec returns float-to-bits-result returns-2)

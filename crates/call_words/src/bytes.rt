@@ -1,0 +1,82 @@
+// Bytes of words, four to a word, lowest first.
+ghost use mathlib.Core.Path.{_≡_};
+ghost use Prim.Native.Nat.{_+_, _≤_};
+ghost use lib.ListN.{length};
+use crate::words;
+
+// The j-th byte of a word.
+fn part(word: u32, j: usize) -> u8 {
+    if j == 0 {
+        return (word % 256) as u8;
+    }
+    if j == 1 {
+        return (word / 256 % 256) as u8;
+    }
+    if j == 2 {
+        return (word / 65536 % 256) as u8;
+    }
+    (word / 16777216) as u8
+}
+
+// The byte at a place of packed words; 0 past their end.
+fn byte(packed: &[u32], k: usize) -> u8 {
+    if packed.len() <= k / 4 {
+        return 0;
+    }
+    part(packed[k / 4], k % 4)
+}
+
+// The first bytes of packed words, as many as `bytes` has.
+pub fn unpack(packed: &[u32], bytes: &mut [u8]) {
+    let mut k: usize = 0;
+    while k < bytes.len() {
+        bytes[k] = byte(packed, k);
+        k += 1;
+    }
+}
+
+// How many words hold n bytes.
+pub fn words_of(n: usize) -> usize
+    requires { ⌜ n ≤ 65536 ⌝ }
+    ensures { λ r. ⌜ r ≤ 16384 ⌝ }
+{
+    (n + 3) / 4
+}
+
+// A byte as a number.
+fn wide(b: u8) -> u32
+    ensures { λ r. ⌜ r ≤ 255 ⌝ }
+{
+    b as u32
+}
+
+// The byte at a place as a number; 0 past the end.
+fn byte_at(bytes: &[u8], k: usize) -> u32
+    ensures { λ r. ⌜ r ≤ 255 ⌝ }
+{
+    if k < bytes.len() {
+        return wide(bytes[k]);
+    }
+    0
+}
+
+// The word of four bytes.
+fn packed(bytes: &[u8], j: usize) -> u32
+    requires { ⌜ j ≤ 16384 ⌝ }
+{
+    byte_at(bytes, 4 * j)
+        + byte_at(bytes, 4 * j + 1) * 256
+        + byte_at(bytes, 4 * j + 2) * 65536
+        + byte_at(bytes, 4 * j + 3) * 16777216
+}
+
+// n words of the bytes of a list, from a place on.
+pub fn put_bytes(bytes: &[u8], out: &mut [u32], at: usize, n: usize)
+    requires { ⌜ (n ≤ 16384) × (at ≤ 65536) ⌝ }
+{
+    let mut j: usize = 0;
+    while j < n {
+        words::put(out, at + j, packed(bytes, j));
+        j += 1;
+    }
+}

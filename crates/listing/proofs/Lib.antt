@@ -1,0 +1,10 @@
+pub mod Stores
+pub mod Numbers
+pub mod Outlines
+pub mod Pieces
+pub mod Lengths
+pub mod Records
+pub mod Inside
+pub mod Same
+pub mod Pictures
+pub mod Texts

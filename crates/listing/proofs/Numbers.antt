@@ -1,0 +1,103 @@
+-- Numbers below 1,000 in decimal: decimal-one, decimal-two, decimal-three, decimal-short. Numbers with spaces: spaced-append,
+-- spaced-none, spaced-more,
+-- spaced-short. Lines: line-short. Assumes nothing.
+use mathlib.Core.Path.{_≡_, refl, sym, ap, ap₂, _∙_, subst}
+use mathlib.Core.Logic.{_⊎_, inl, inr, ⊎-elim}
+use mathlib.Core.Bool.{Bool, true, false, cond}
+use mathlib.Core.List.{List, [], _∷_, _++_, append-assoc, append-nil}
+use Prim.Native.Nat.{ℕ, zero, suc, _+_, _-_, _*_, _/_, _%_, _≤_, _<_}
+use native.Mathlib.Numerals.{add-one}
+use native.Mathlib.Omega.{arith}
+use lib.Dec.{ltb}
+use lib.ListN.{length, getD, take, length-append}
+use lib.Seq.{take-suc}
+use borrow.Author.Tests.{lt-ltb, le-ltb}
+use Rattle.laws.proofs.Bools.{le-or-lt}
+use Rattle.listing.specs.Text.{spelt, decimal, spaced, lineOf}
+use Rattle.listing.specs.Put.{Short}
+
+-- ---- digits
+spelt-one : (m n : ℕ) → n < 10 → spelt (suc m) n ≡ (48 + n) ∷ []
+unfolding spelt
+spelt-one m n l = rw (lt-ltb n 10 l)
+
+spelt-more : (m n : ℕ) → 10 ≤ n → spelt (suc m) n ≡ spelt m (n / 10) ++ ((48 + n % 10) ∷ [])
+unfolding spelt
+spelt-more m n l = rw (le-ltb n 10 l)
+
+pub decimal-one : (n : ℕ) → n < 10 → decimal n ≡ (48 + n) ∷ []
+unfolding decimal
+decimal-one n l = spelt-one n n l
+
+pub decimal-two : (n : ℕ) → 10 ≤ n → n < 100 → decimal n ≡ (48 + n / 10) ∷ (48 + n % 10) ∷ []
+unfolding decimal
+decimal-two n lo hi =
+    let z : n ≡ suc (n - 1) = omega arith in
+    spelt-more n n lo
+    ∙ ap (λ (m : ℕ). spelt m (n / 10) ++ ((48 + n % 10) ∷ [])) z
+    ∙ ap (λ (l : List ℕ). l ++ ((48 + n % 10) ∷ [])) (spelt-one (n - 1) (n / 10) (omega arith))
+
+pub decimal-three : (n : ℕ) → 100 ≤ n → n < 1000 → decimal n ≡ (48 + n / 100) ∷ (48 + n / 10 % 10) ∷ (48 + n % 10) ∷ []
+unfolding decimal
+decimal-three n lo hi =
+    let z : n ≡ suc (suc (n - 2)) = omega arith in
+    let d : n / 10 / 10 ≡ n / 100 = omega arith in
+    spelt-more n n (omega arith)
+    ∙ ap (λ (m : ℕ). spelt m (n / 10) ++ ((48 + n % 10) ∷ [])) z
+    ∙ ap (λ (l : List ℕ). l ++ ((48 + n % 10) ∷ [])) (
+    spelt-more (suc (n - 2)) (n / 10) (omega arith)
+    ∙ ap (λ (l : List ℕ). l ++ ((48 + n / 10 % 10) ∷ [])) (spelt-one (n - 2) (n / 10 / 10) (omega arith)))
+    ∙ ap (λ (k : ℕ). (48 + k) ∷ (48 + n / 10 % 10) ∷ (48 + n % 10) ∷ []) d
+
+pub decimal-short : (n : ℕ) → n < 1000 → length (decimal n) ≤ 3
+decimal-short n l = go (le-or-lt 10 n) (le-or-lt 100 n)
+  where
+    go : (10 ≤ n) ⊎ (n < 10) → (100 ≤ n) ⊎ (n < 100) → length (decimal n) ≤ 3
+    go (inr a) b = rw (decimal-one n a) (omega arith)
+    go (inl a) (inr b) = rw (decimal-two n a b) (omega arith)
+    go (inl a) (inl b) = rw (decimal-three n b l) (omega arith)
+
+-- ---- numbers with a space before each
+pub spaced-append : (a b : List ℕ) → spaced (a ++ b) ≡ spaced a ++ spaced b
+unfolding spaced
+spaced-append [] b = refl
+spaced-append (n ∷ a) b =
+    ap (λ (l : List ℕ). (32 ∷ decimal n) ++ l) (spaced-append a b) ∙ sym (append-assoc (32 ∷ decimal n) (spaced a) (spaced b))
+
+pub spaced-none : (ns : List ℕ) → [] ≡ spaced (take 0 ns)
+unfolding spaced
+spaced-none ns = refl
+
+spaced-one : (n : ℕ) → spaced (n ∷ []) ≡ 32 ∷ decimal n
+unfolding spaced
+spaced-one n = append-nil (32 ∷ decimal n)
+
+pub spaced-more : (ns : List ℕ) (i : ℕ) → i < length ns → spaced (take i ns) ++ (32 ∷ decimal (getD ns i 0)) ≡ spaced (take (i + 1) ns)
+spaced-more ns i l =
+    ap (λ (t : List ℕ). spaced (take i ns) ++ t) (sym (spaced-one (getD ns i 0)))
+    ∙ sym (spaced-append (take i ns) (getD ns i 0 ∷ []))
+    ∙ ap spaced (sym (rw (add-one i) (take-suc ns i 0 l)))
+
+pub short-tail : (n : ℕ) (ns : List ℕ) → Short (n ∷ ns) → Short ns
+short-tail n ns s i l = s (suc i) (omega arith)
+
+pub spaced-short : (ns : List ℕ) → Short ns → length (spaced ns) ≤ 4 * length ns
+unfolding spaced
+spaced-short [] s = omega arith
+spaced-short (n ∷ ns) s =
+    rw (length-append (32 ∷ decimal n) (spaced ns))
+    (omega (arith, decimal-short n (s 0 (omega arith)), spaced-short ns (short-tail n ns s)))
+
+pub line-short : (word ns : List ℕ) → Short ns → length (lineOf word ns) ≤ length word + (4 * length ns + 1)
+unfolding lineOf
+line-short word ns s =
+    rw (length-append word (spaced ns ++ (10 ∷ [])), length-append (spaced ns) (10 ∷ [])) (omega (arith, spaced-short ns s))
+
+-- room for one number more
+pub spaced-room : (ns : List ℕ) → Short ns → (i : ℕ) → i ≤ length ns → length (spaced (take i ns)) ≤ 4 * i
+spaced-room ns s zero l = unfold spaced in omega arith
+spaced-room ns s (suc i) l =
+    let e : spaced (take (suc i) ns) ≡ spaced (take i ns) ++ (32 ∷ decimal (getD ns i 0)) = rw (← add-one i) (sym (spaced-more ns i
+    (omega arith))) in
+    rw (e, length-append (spaced (take i ns)) (32 ∷ decimal (getD ns i 0)))
+    (omega (arith, spaced-room ns s i (omega arith), decimal-short (getD ns i 0) (s i (omega arith))))

@@ -1,0 +1,173 @@
+-- The text of a picture and of a record. Kept regions: first-none, first-more, first-room. The picture: picture-taken, kept-few,
+-- text-stored, text-short.
+-- The record: check-most, text-refused, text-accepted; a text in its place, filled-is. Assumes nothing.
+use mathlib.Core.Path.{_≡_, refl, sym, ap, ap₂, _∙_, subst}
+use mathlib.Core.Bool.{Bool, true, false}
+use mathlib.Core.List.{List, [], _∷_, _++_}
+use Prim.Native.Nat.{ℕ, zero, suc, _+_, _-_, _*_, _≤_, _<_}
+use native.Mathlib.Numerals.{add-one}
+use native.Mathlib.Omega.{arith}
+use lib.Dec.{leb, eqb}
+use lib.ListN.{length, getD, take, drop, replicate, length-append, length-replicate}
+use Rattle.laws.specs.Check.{orRefuse}
+use Rattle.laws.specs.Plane.{Plane, plane}
+use Rattle.regions.specs.Cells.{cellsOf, groupsOf}
+use Rattle.regions.specs.Kept.{keptCount}
+use Rattle.regions.specs.Door.{checkGrids, noRegion, region, keptRegions, answerBy, pictureAnswer}
+use Rattle.regions.specs.declared.answer.Region.{Region}
+use Rattle.regions.specs.declared.answer.Kept.{Kept}
+use Rattle.regions.specs.declared.answer.PictureAnswer.{PictureAnswer}
+use Rattle.boundary.specs.Boundary.{joined}
+use Rattle.outline.proofs.Writes.{joined-more}
+use Rattle.listing.specs.Text.{lineOf, refusedWord, regionsWord}
+use Rattle.listing.specs.Listing.{pairAt, fourAt, widthOf, heightOf, pixelsOf, isTraySide, checkRecord, regionLines, firstLines}
+use Rattle.listing.specs.Listing.{pictureText, textBy, textOf, filled}
+use Rattle.listing.specs.Put.{Stored}
+use Rattle.listing.specs.Inner.{TrayPicture, TrayRegion}
+use Rattle.listing.proofs.Stores.{stored-none, stored-append, stored-ext, stored-length, stored-laid}
+use Rattle.listing.proofs.Numbers.{line-short}
+use Rattle.listing.proofs.Pieces.{one-short, two-short}
+use Rattle.listing.proofs.Records.{pixels-are}
+use Rattle.listing.proofs.Inside.{groups-le}
+use Rattle.listing.proofs.Pictures.{cells-few, picture-passes, kept-four, listed, tray-region, region-lines-short}
+
+-- ---- the first kept regions
+module _ (p : Plane) (w h : ℕ) where
+  abbrev nth : ℕ → Region
+  nth i = getD (keptRegions p w h .list) i noRegion
+
+  pub region-nth : (k : Kept) → k ≡ keptRegions p w h → (i : ℕ)
+      → getD (k .list) i (record { label = 0; cells = 0; x0 = 0; y0 = 0; x1 = 0; y1 = 0 }) ≡ nth i
+  unfolding noRegion
+  region-nth k e i = ap (λ (z : Kept). getD (z .list) i noRegion) e
+
+  pub first-none : (at : ℕ) (l : List ℕ) → Stored at (firstLines p w h 0) l l at
+  unfolding firstLines joined
+  first-none at l = stored-none at l
+
+  pub first-next : (i : ℕ) → firstLines p w h (i + 1) ≡ firstLines p w h i ++ regionLines p w h (nth i)
+  unfolding firstLines
+  first-next i = joined-more i (λ j. regionLines p w h (nth j))
+
+  pub first-more : {at r r′ : ℕ} {l l′ l″ : List ℕ} (i : ℕ) (q : Region) → q ≡ nth i → Stored at (firstLines p w h i) l l′ r
+      → Stored r (regionLines p w h q) l′ l″ r′ → Stored at (firstLines p w h (i + 1)) l l″ r′
+  first-more i q e v u =
+      stored-ext (firstLines p w h i ++ regionLines p w h q) (firstLines p w h (i + 1))
+      (ap (λ (z : Region). firstLines p w h i ++ regionLines p w h z) e ∙ sym (first-next i)) (stored-append v u)
+
+module _ (s : List ℕ) (w h : ℕ) (t : TrayPicture s w h) where
+  abbrev p : Plane
+  p = plane w s
+
+  first-short : (i : ℕ) → i ≤ keptCount p w h → length (firstLines p w h i) ≤ 84 * i
+  first-short zero l = unfold firstLines joined in omega arith
+  first-short (suc i) l =
+      let g = tray-region s w h t i l in
+      let e : regionLines p w h (nth p w h i) ≡ regionLines p w h (region p w h i) = ap (regionLines p w h) (listed s w h t i l) in
+      let f : firstLines p w h (suc i) ≡ firstLines p w h i ++ regionLines p w h (nth p w h i) = rw (← add-one i) (first-next p w h i) in
+      omega (
+        arith,
+        ap length f,
+        length-append (firstLines p w h i) (regionLines p w h (nth p w h i)),
+        ap length e,
+        region-lines-short s w h t (region p w h i) g,
+        first-short i (omega arith),
+      )
+
+  -- room for the lines of one region more
+  pub first-room : {at r : ℕ} {l l′ : List ℕ} (i n : ℕ) → n ≡ keptCount p w h → i < n → at + 336 ≤ length l → Stored at (firstLines p w h
+      i) l l′ r
+      → r + 84 ≤ length l′
+  first-room i n e b fit v =
+      omega (arith, b, e, fit, v .next, stored-length v, first-short i (omega arith), kept-four s w h t)
+
+  -- ---- the picture
+  pub kept-count : (k : Kept) → k ≡ keptRegions p w h → k .kept ≡ keptCount p w h
+  kept-count k e = ap (λ (z : Kept). z .kept) e ∙ unfold keptRegions in refl
+
+  pub tray-nth : (k : Kept) → k ≡ keptRegions p w h → (i : ℕ) → i < k .kept
+      → TrayRegion w h (getD (k .list) i (record { label = 0; cells = 0; x0 = 0; y0 = 0; x1 = 0; y1 = 0 }))
+  tray-nth k e i l =
+      let b : i < keptCount p w h = subst (λ (n : ℕ). i < n) (kept-count k e) l in
+      subst (λ (z : Region). TrayRegion w h z) (sym (region-nth p w h k e i ∙ listed s w h t i b)) (tray-region s w h t i b)
+
+  pub kept-few : (k : Kept) → k ≡ keptRegions p w h → (k .all < 1000) × (k .kept < 1000)
+  kept-few k e =
+      let a : k .all ≡ groupsOf p w h = ap (λ (z : Kept). z .all) e ∙ unfold keptRegions in refl in
+      let b : k .kept ≡ keptCount p w h = ap (λ (z : Kept). z .kept) e ∙ unfold keptRegions in refl in
+      (omega (arith, a, groups-le p w h, cells-few w h (t .wide) (t .high) .1), omega (arith, b, kept-four s w h t))
+
+  pub text-stored : {n e : ℕ} {l l′ l″ : List ℕ} (k : Kept) → k ≡ keptRegions p w h
+      → Stored 0 (lineOf regionsWord (k .all ∷ k .kept ∷ [])) l l′ n → Stored n (firstLines p w h (k .kept)) l′ l″ e → Stored 0
+      (pictureText p w h) l l″ e
+  unfolding pictureText
+  text-stored k q v u =
+      stored-append
+      (stored-ext (lineOf regionsWord (k .all ∷ k .kept ∷ [])) (lineOf regionsWord (keptRegions p w h .all ∷ keptRegions p w h .kept ∷
+      []))
+      (ap (λ (z : Kept). lineOf regionsWord (z .all ∷ z .kept ∷ [])) q) v)
+      (stored-ext (firstLines p w h (k .kept)) (firstLines p w h (keptRegions p w h .kept)) (ap (λ (z : Kept). firstLines p w h (z
+      .kept)) q) u)
+
+  pub text-short : length (pictureText p w h) ≤ 352
+  unfolding pictureText
+  text-short =
+      let k = keptRegions p w h in
+      let f = kept-few k refl in
+      let b : k .kept ≡ keptCount p w h = unfold keptRegions in refl in
+      omega (
+        arith,
+        length-append (lineOf regionsWord (k .all ∷ k .kept ∷ [])) (firstLines p w h (k .kept)),
+        line-short regionsWord (k .all ∷ k .kept ∷ []) (two-short (k .all) (k .kept) (f .0) (f .1)),
+        first-short (k .kept) (omega (arith, b)),
+        b,
+        kept-four s w h t,
+      )
+
+taken : (a : PictureAnswer) (n : ℕ) (k : Kept) → a ≡ answerBy n k → n ≡ 0 → (a .refused ≡ 0) × (a .regions ≡ k)
+taken a n k e z =
+    let q = e ∙ ap (λ (m : ℕ). answerBy m k) z in
+    (ap (λ (x : PictureAnswer). x .refused) q, ap (λ (x : PictureAnswer). x .regions) q)
+
+pub picture-taken : (s : List ℕ) (w h : ℕ) → TrayPicture s w h → (a : PictureAnswer) → a ≡ pictureAnswer s w h 100 400 400
+    → (a .refused ≡ 0) × (a .regions ≡ keptRegions (plane w s) w h)
+picture-taken s w h t a e =
+    taken a (checkGrids w h (length s) 100 400 400) (keptRegions (plane w s) w h) e
+    (picture-passes s w h t 100 400 400 (omega arith) (omega arith) (omega arith))
+
+-- ---- the record
+most : (b : Bool) (rest : ℕ) → rest ≤ 13 → orRefuse b 13 rest ≤ 13
+most true rest l = l
+most false rest l = omega arith
+
+pub check-most : (s : List ℕ) → checkRecord s ≤ 13
+check-most s =
+    most (leb 10 (length s)) _ (most (eqb (pairAt s 4) 1) _ (most (isTraySide (widthOf s)) _ (most (isTraySide (heightOf s)) _
+    (most (eqb (fourAt s 0) (6 + widthOf s * heightOf s)) _ (most (leb (10 + widthOf s * heightOf s) (length s)) 0 (omega arith))))))
+
+pub text-refused : (s : List ℕ) (n : ℕ) → n ≡ checkRecord s → (n ≡ 0 → ⊥) → lineOf refusedWord (n ∷ []) ≡ textOf s
+unfolding textOf
+text-refused s n e z = refused n z ∙ ap (λ (m : ℕ). textBy m s) e
+  where
+    refused : (n : ℕ) → (n ≡ 0 → ⊥) → lineOf refusedWord (n ∷ []) ≡ textBy n s
+    refused zero z = absurd (z refl)
+    refused (suc n) z = unfold textBy in refl
+
+pub text-accepted : (s : List ℕ) (w h : ℕ) → checkRecord s ≡ 0 → w ≡ widthOf s → h ≡ heightOf s
+    → pictureText (plane w (take (10 + w * h - 10) (drop 10 s))) w h ≡ textOf s
+unfolding textOf
+text-accepted s w h z ew eh =
+    ap (λ (l : List ℕ). pictureText (plane w l) w h) (pixels-are s (w * h))
+    ∙ ap₂ (λ (x y : ℕ). pictureText (plane x (take (x * y) (drop 10 s))) x y) ew eh
+    ∙ unfold textBy in refl
+    ∙ ap (λ (m : ℕ). textBy m s) (sym z)
+
+-- a text that begins 512 bytes of zeros
+pub filled-is : {l′ : List ℕ} {r : ℕ} (u v : List ℕ) → u ≡ v → length u ≤ 512 → Stored 0 u (replicate 512 0) l′ r
+    → (l′ ≡ filled v) × ((r ≡ length v) × (r ≤ 512))
+filled-is {l′} {r} u v e fit w =
+    let q : length u ≤ length {A = ℕ} (replicate 512 0) = omega (arith, fit, length-replicate {A = ℕ} 512 0) in
+    (stored-laid w q ∙ ap (λ (l : List ℕ). filled l) e, (w .next ∙ zero-sum (length u) ∙ ap length e, omega (arith, w .next)))
+  where
+    zero-sum : (n : ℕ) → 0 + n ≡ n
+    zero-sum n = omega arith

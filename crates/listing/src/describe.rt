@@ -1,0 +1,123 @@
+// The listing of a picture, region by region. Working lists are local: 100 level cells and 400
+// region cells for sides up to 160, and at most 640 points.
+use crate::lines::line;
+use crate::lines::quad_line;
+use outline::Answer;
+use regions::answer::Kept;
+use regions::answer::Region;
+ghost use mathlib.Core.Path.{_≡_};
+ghost use Prim.Native.Nat.{_+_, _≤_};
+ghost use lib.ListN.{length};
+ghost use Rattle.laws.specs.Plane.{plane};
+ghost use Rattle.regions.specs.Door.{keptRegions};
+ghost use Rattle.listing.specs.Listing.{regionLines, firstLines, pictureText};
+ghost use Rattle.listing.specs.Put.{Stored, Outlined, linesBy};
+ghost use Rattle.listing.specs.Inner.{TrayPicture, Mapped, TrayRegion};
+
+// The lines of an outline whose points are p: how many points and vertices, and the quad.
+fn outline_lines(p: &[f32], out: &mut [u8], at: usize) -> usize
+    requires { ⌜ Outlined (now p) ⌝ }
+    requires { ⌜ at + 53 ≤ length (now out) ⌝ }
+    ensures { λ r. ⌜ Stored at (linesBy (now (p .entry))) (now (out .entry)) (now (out .exit)) r ⌝ }
+{
+    let mut vertices = [0f32; 1280];
+    let n = p.len() / 2;
+    let m = hull::convex_hull(p, &mut vertices);
+    let next = line(out, at, b"outline", &[n as u32, m as u32]);
+    quad_line(&vertices[..2 * m], out, next)
+}
+
+// The lines of one region.
+fn region_lines(
+    s: &[u8],
+    w: usize,
+    h: usize,
+    levels: &[u8],
+    labels: &[u32],
+    r: Region,
+    out: &mut [u8],
+    at: usize,
+) -> usize
+    requires { ⌜ TrayPicture (now s) w h ⌝ }
+    requires { ⌜ Mapped (now s) w h (now levels) (now labels) ⌝ }
+    requires { ⌜ TrayRegion w h r ⌝ }
+    requires { ⌜ at + 84 ≤ length (now out) ⌝ }
+    ensures { λ e. ⌜
+        Stored at (regionLines (plane w (now (s .entry))) w h r) (now (out .entry)) (now (out .exit)) e ⌝ }
+{
+    let mut points = [0f32; 1280];
+    let x0 = r.x0 as usize;
+    let y0 = r.y0 as usize;
+    let x1 = r.x1 as usize;
+    let y1 = r.y1 as usize;
+    let next = line(
+        out,
+        at,
+        b"region",
+        &[r.label, r.cells, r.x0, r.y0, r.x1, r.y1],
+    );
+    let a = outline::outline(
+        s,
+        levels,
+        labels,
+        r.label,
+        w,
+        h,
+        x0,
+        y0,
+        x1,
+        y1,
+        &mut points,
+    );
+    let Answer::Points(n) = a else {
+        return next;
+    };
+    outline_lines(&points[..2 * n], out, next)
+}
+
+// The lines of the kept regions.
+fn all_regions(
+    s: &[u8],
+    w: usize,
+    h: usize,
+    levels: &[u8],
+    labels: &[u32],
+    k: Kept,
+    out: &mut [u8],
+    at: usize,
+) -> usize
+    requires { ⌜ TrayPicture (now s) w h ⌝ }
+    requires { ⌜ Mapped (now s) w h (now levels) (now labels) ⌝ }
+    requires { ⌜ k ≡ keptRegions (plane w (now s)) w h ⌝ }
+    requires { ⌜ at + 336 ≤ length (now out) ⌝ }
+    ensures { λ e. ⌜
+        Stored at (firstLines (plane w (now (s .entry))) w h (k .kept)) (now (out .entry))
+        (now (out .exit)) e ⌝ }
+{
+    let kept = k.kept;
+    let list = k.list;
+    let mut to = at;
+    let mut i: usize = 0;
+    while i < kept {
+        let r = list[i];
+        to = region_lines(s, w, h, levels, labels, r, out, to);
+        i += 1;
+    }
+    to
+}
+
+// The listing of a picture.
+pub fn picture_text(s: &[u8], w: usize, h: usize, out: &mut [u8]) -> usize
+    requires { ⌜ TrayPicture (now s) w h ⌝ }
+    requires { ⌜ 352 ≤ length (now out) ⌝ }
+    ensures { λ r. ⌜
+        Stored 0 (pictureText (plane w (now (s .entry))) w h) (now (out .entry)) (now (out .exit)) r ⌝ }
+{
+    let mut levels = [0u8; 100];
+    let mut labels = [0u32; 400];
+    let mut stack = [0u32; 400];
+    let a = picture::picture(s, w, h, &mut levels, &mut labels, &mut stack);
+    let k = a.regions;
+    let next = line(out, 0, b"regions", &[k.all as u32, k.kept as u32]);
+    all_regions(s, w, h, &levels, &labels, k, out, next)
+}

@@ -1,0 +1,139 @@
+-- `outline_calls::made` meets its contract. Assumes nothing.
+use lib.Seq.{length-take-le}
+use lib.ListN.{length}
+use native.Mathlib.Omega.{arith}
+use mathlib.Core.Path.{_≡_, sym}
+use borrow.Author.Needs.{needs}
+use Rattle.outline_calls.proofs.made.Statement.{statement}
+use Rattle.outline_calls.proofs.made.Tie as tie
+
+picture-room-requires : tie.Need-picture-room-requires
+picture-room-requires c κs = search needs
+
+level-room-requires : tie.Need-level-room-requires
+level-room-requires c κs = search needs
+
+room-requires : tie.Need-room-requires
+room-requires c κs = search needs
+
+sub-unpack : tie.Need-sub-unpack
+sub-unpack c = search needs
+
+part-unpack-start : tie.Need-part-unpack-start
+part-unpack-start c = search needs
+
+part-unpack-end : tie.Need-part-unpack-end
+part-unpack-end c = search needs
+
+slice-aggregate-unpack : tie.Need-slice-aggregate-unpack
+slice-aggregate-unpack c = search needs
+
+unpack-requires : tie.Need-unpack-requires
+unpack-requires c κs = search needs
+
+mul-unpack : tie.Need-mul-unpack
+mul-unpack c = search needs
+
+sub-unpack-2 : tie.Need-sub-unpack-2
+sub-unpack-2 c = search needs
+
+part-unpack-start-2 : tie.Need-part-unpack-start-2
+part-unpack-start-2 c = search needs
+
+part-unpack-end-2 : tie.Need-part-unpack-end-2
+part-unpack-end-2 c = search needs
+
+slice-aggregate-unpack-2 : tie.Need-slice-aggregate-unpack-2
+slice-aggregate-unpack-2 c = search needs
+
+unpack-requires-2 : tie.Need-unpack-requires-2
+unpack-requires-2 c κs = search needs
+
+slice-aggregate-lent : tie.Need-slice-aggregate-lent
+slice-aggregate-lent c =
+    sym (length-take-le 11 (c .before .before .before .before .before .before .before .before .before .before .before .before .before .before .args .args .now) (omega arith))
+
+array-share-prefix-s : tie.Need-array-share-prefix-s
+array-share-prefix-s c = search needs
+
+slice-aggregate-lent-2 : tie.Need-slice-aggregate-lent-2
+slice-aggregate-lent-2 c =
+    let l : length (c .before .before .before .before .before .before .before .unpack .last .1 .0) ≡ length (c .before .before .before .before .before .before .before .before .before .before .before .before .picture-room .result) = c .before .before .before .before .before .before .before .unpack .kept .1 .0 in
+    let r = c .before .before .before .before .before .before .before .before .before .before .before .before .picture-room .ensures in
+    sym (length-take-le (c .before .before .before .before .before .before .before .before .before .before .before .before .before .before .before .args .n) (c .before .before .before .before .before .before .before .unpack .last .1 .0) (omega arith))
+
+array-share-prefix-levels : tie.Need-array-share-prefix-levels
+array-share-prefix-levels c = search needs
+
+slice-aggregate-lent-3 : tie.Need-slice-aggregate-lent-3
+slice-aggregate-lent-3 c =
+    let l : length (c .before .before .before .before .unpack2 .last .1 .0) ≡ length (c .before .before .before .before .before .before .before .before .before .before .before .before .level-room .result) = c .before .before .before .before .unpack2 .kept .1 .0 in
+    let r = c .before .before .before .before .before .before .before .before .before .before .before .before .level-room .ensures in
+    sym (length-take-le (c .before .before .before .before .before .before .before .before .before .before .before .before .before .before .before .before .args .g) (c .before .before .before .before .unpack2 .last .1 .0) (omega arith))
+
+mul-lent : tie.Need-mul-lent
+mul-lent c = search needs
+
+sub-lent : tie.Need-sub-lent
+sub-lent c = search needs
+
+part-lent-start : tie.Need-part-lent-start
+part-lent-start c = search needs
+
+part-lent-end : tie.Need-part-lent-end
+part-lent-end c = search needs
+
+array-borrow-prefix-list : tie.Need-array-borrow-prefix-list
+array-borrow-prefix-list c = search needs
+
+slice-aggregate-lent-4 : tie.Need-slice-aggregate-lent-4
+slice-aggregate-lent-4 c =
+    let r = c .before .before .before .before .before .before .before .before .before .before .before .before .before .room .ensures in
+    sym (length-take-le (c .before .before .before .before .before .before .before .before .before .before .before .before .before .before .before .before .before .before .args .m) (c .before .before .before .before .before .before .before .before .before .before .before .before .before .room .result) (omega arith))
+
+lent-requires : tie.Need-lent-requires
+lent-requires c κs =
+    let a = c .before .before .before .before .before .before .before .before .before .before .before .before .before .before .before .before .before .before .before .args in
+    let r = c .before .before .before .before .before .before .before .before .before .before .before .before .before .before .room .ensures in
+    let p = length-take-le 11 (a .args .now) (omega arith) in
+    let q = length-take-le (a .m) (c .before .before .before .before .before .before .before .before .before .before .before .before .before .before .room .result) (omega arith) in
+    (omega arith, omega arith)
+
+same-length : tie.Need-same-length
+same-length c = search needs
+
+returns : tie.Need-returns
+returns c = search needs
+
+pub made-spec : {M : Type 1} → statement M
+made-spec =
+    tie.close
+    (tie.spec
+    picture-room-requires
+    level-room-requires
+    room-requires
+    sub-unpack
+    part-unpack-start
+    part-unpack-end
+    slice-aggregate-unpack
+    unpack-requires
+    mul-unpack
+    sub-unpack-2
+    part-unpack-start-2
+    part-unpack-end-2
+    slice-aggregate-unpack-2
+    unpack-requires-2
+    slice-aggregate-lent
+    array-share-prefix-s
+    slice-aggregate-lent-2
+    array-share-prefix-levels
+    slice-aggregate-lent-3
+    mul-lent
+    sub-lent
+    part-lent-start
+    part-lent-end
+    array-borrow-prefix-list
+    slice-aggregate-lent-4
+    lent-requires
+    same-length
+    returns)
