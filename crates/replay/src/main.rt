@@ -63,4 +63,5 @@ fn main() {
     area(b"fit");
     area(b"ring");
     area(b"outline");
+    area(b"attempt");
 }
