@@ -1,3 +1,4 @@
+-- `math_calls::mad_sigma` meets its contract. Assumes nothing.
 use lib.Seq.{length-take-le}
 use lib.ListN.{length}
 use Prim.Native.Nat.{_≤_}

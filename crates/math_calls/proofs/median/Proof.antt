@@ -1,3 +1,4 @@
+-- `math_calls::median` meets its contract. Assumes nothing.
 use lib.Seq.{length-take-le}
 use lib.ListN.{length}
 use Prim.Native.Nat.{ℕ, _≤_}

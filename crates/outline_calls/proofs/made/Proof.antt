@@ -51,25 +51,37 @@ unpack-requires-2 c κs = search needs
 
 slice-aggregate-lent : tie.Need-slice-aggregate-lent
 slice-aggregate-lent c =
-    sym (length-take-le 11 (c .before .before .before .before .before .before .before .before .before .before .before .before .before .before .args .args .now) (omega arith))
+    sym (length-take-le 11
+    (c .before .before .before .before .before .before .before .before .before .before .before .before .before .before .args .args .now)
+    (omega arith))
 
 array-share-prefix-s : tie.Need-array-share-prefix-s
 array-share-prefix-s c = search needs
 
 slice-aggregate-lent-2 : tie.Need-slice-aggregate-lent-2
 slice-aggregate-lent-2 c =
-    let l : length (c .before .before .before .before .before .before .before .unpack .last .1 .0) ≡ length (c .before .before .before .before .before .before .before .before .before .before .before .before .picture-room .result) = c .before .before .before .before .before .before .before .unpack .kept .1 .0 in
+    let l : length (c .before .before .before .before .before .before .before .unpack .last .1 .0)
+    ≡ length (c .before .before .before .before .before .before .before .before .before .before .before .before .picture-room .result) =
+    c .before .before .before .before .before .before .before .unpack .kept .1 .0 in
     let r = c .before .before .before .before .before .before .before .before .before .before .before .before .picture-room .ensures in
-    sym (length-take-le (c .before .before .before .before .before .before .before .before .before .before .before .before .before .before .before .args .n) (c .before .before .before .before .before .before .before .unpack .last .1 .0) (omega arith))
+    let a =
+        c .before .before .before .before .before .before .before .before .before .before .before .before .before .before .before .args in
+    sym (length-take-le (a .n)
+        (c .before .before .before .before .before .before .before .unpack .last .1 .0) (omega arith))
 
 array-share-prefix-levels : tie.Need-array-share-prefix-levels
 array-share-prefix-levels c = search needs
 
 slice-aggregate-lent-3 : tie.Need-slice-aggregate-lent-3
 slice-aggregate-lent-3 c =
-    let l : length (c .before .before .before .before .unpack2 .last .1 .0) ≡ length (c .before .before .before .before .before .before .before .before .before .before .before .before .level-room .result) = c .before .before .before .before .unpack2 .kept .1 .0 in
+    let l : length (c .before .before .before .before .unpack2 .last .1 .0)
+    ≡ length (c .before .before .before .before .before .before .before .before .before .before .before .before .level-room .result) =
+    c .before .before .before .before .unpack2 .kept .1 .0 in
     let r = c .before .before .before .before .before .before .before .before .before .before .before .before .level-room .ensures in
-    sym (length-take-le (c .before .before .before .before .before .before .before .before .before .before .before .before .before .before .before .before .args .g) (c .before .before .before .before .unpack2 .last .1 .0) (omega arith))
+    let a =
+        c .before .before .before .before .before .before .before .before .before .before .before .before .before .before .before .before .args in
+    sym (length-take-le (a .g)
+        (c .before .before .before .before .unpack2 .last .1 .0) (omega arith))
 
 mul-lent : tie.Need-mul-lent
 mul-lent c = search needs
@@ -89,14 +101,21 @@ array-borrow-prefix-list c = search needs
 slice-aggregate-lent-4 : tie.Need-slice-aggregate-lent-4
 slice-aggregate-lent-4 c =
     let r = c .before .before .before .before .before .before .before .before .before .before .before .before .before .room .ensures in
-    sym (length-take-le (c .before .before .before .before .before .before .before .before .before .before .before .before .before .before .before .before .before .before .args .m) (c .before .before .before .before .before .before .before .before .before .before .before .before .before .room .result) (omega arith))
+    let a =
+        c .before .before .before .before .before .before .before .before .before .before .before .before .before .before .before .before .before .before .args in
+    sym (length-take-le (a .m)
+        (c .before .before .before .before .before .before .before .before .before .before .before .before .before .room .result) (omega arith))
 
 lent-requires : tie.Need-lent-requires
 lent-requires c κs =
-    let a = c .before .before .before .before .before .before .before .before .before .before .before .before .before .before .before .before .before .before .before .args in
-    let r = c .before .before .before .before .before .before .before .before .before .before .before .before .before .before .room .ensures in
+    let a =
+        c .before .before .before .before .before .before .before .before .before .before .before .before .before .before .before .before .before .before .before .args in
+    let r =
+        c .before .before .before .before .before .before .before .before .before .before .before .before .before .before .room .ensures in
     let p = length-take-le 11 (a .args .now) (omega arith) in
-    let q = length-take-le (a .m) (c .before .before .before .before .before .before .before .before .before .before .before .before .before .before .room .result) (omega arith) in
+    let q = length-take-le (a .m)
+    (c .before .before .before .before .before .before .before .before .before .before .before .before .before .before .room .result)
+    (omega arith) in
     (omega arith, omega arith)
 
 same-length : tie.Need-same-length

@@ -1,3 +1,5 @@
+-- `packed::unpack` meets its contract. The invariant: as many bytes as before. The measure is what is left of
+-- the bytes. Assumes nothing.
 use mathlib.Core.Path.{_≡_}
 use Prim.Native.Nat.{_-_, _≤_}
 use native.Mathlib.Omega.{arith}

@@ -1,3 +1,5 @@
+-- `exports::numbers::hand` meets its contract.
+-- The invariant: as many places as before. The measure is what is left of them. Assumes nothing.
 use lib.ListN.{length, length-set}
 use Prim.Native.Nat.{_-_, _≤_}
 use mathlib.Core.Path.{_≡_}

@@ -1,12 +1,10 @@
+-- `lcr_core::claims::table_rows`: the claim holds. Assumes nothing.
 use Rattle.lcr_core.proofs.Rows.{table-length, row-of}
 use Rattle.lcr_core.specs.Mark.{rowStart, rowsThrough}
 use mathlib.Core.Path.{refl}
 use Rattle.lcr_core.proofs.claims.table_rows.Statement.{statement}
 use Rattle.lcr_core.proofs.claims.table_rows.Tie as tie
-use Rattle.lcr_core.proofs.claims.table_rows.Reads as reads
-use Rattle.lcr_core.proofs.claims.table_rows.Lts as lts
 
--- src/claims.rt:6:1
 returns : tie.Need-returns
 unfolding rowStart rowsThrough
 returns c = record { bytes = table-length; first = refl; last = refl; row = row-of }

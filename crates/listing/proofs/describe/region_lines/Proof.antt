@@ -1,5 +1,5 @@
-use Rattle.listing.proofs.Pictures.{never-refused, points-room, part-outlined, region-stored}
 -- `listing::describe::region_lines` meets its contract. Assumes nothing.
+use Rattle.listing.proofs.Pictures.{never-refused, points-room, part-outlined, region-stored}
 use Rattle.listing.proofs.Pieces.{region-short, line-next}
 use Rattle.listing.specs.Text.{regionWord}
 use lib.Seq.{length-take-le}

@@ -1,7 +1,7 @@
+-- `listing::record::check` meets its contract. Each way out is one line of the chain of checks. Assumes nothing.
 use Rattle.listing.proofs.Records.{refuse-bytes, accept}
 use Rattle.listing.proofs.Records.{side-of, area-small, refuse-short, refuse-kind, refuse-wide, refuse-high, refuse-length}
 use mathlib.Core.Path.{_≡_, sym, ap, ap₂, _∙_}
--- `listing::record::check` meets its contract. Each way out is one line of the chain of checks. Assumes nothing.
 use Rattle.listing.specs.Listing.{isTraySide, pairAt}
 use Rattle.laws.proofs.Bools.{not-true, not-false}
 use lib.ListN.{length}

@@ -52,9 +52,12 @@ array-share-prefix-p c = search needs
 
 slice-aggregate-hull-lent : tie.Need-slice-aggregate-hull-lent
 slice-aggregate-hull-lent c =
-    let l : length (c .before .before .read32 .last .1 .0) ≡ length (c .before .before .before .before .before .before .room .result) = c .before .before .read32 .kept .1 .0 in
+    let l : length (c .before .before .read32 .last .1 .0) ≡ length (c .before .before .before .before .before .before .room .result) =
+    c .before .before .read32 .kept .1 .0 in
     let r = c .before .before .before .before .before .before .room .ensures in
-    sym (length-take-le (length (c .before .before .before .before .before .before .before .before .before .before .before .before .before .before .args .args .now) - 1) (c .before .before .read32 .last .1 .0) (omega arith))
+    sym (length-take-le (length
+    (c .before .before .before .before .before .before .before .before .before .before .before .before .before .before .args .args .now)
+    - 1) (c .before .before .read32 .last .1 .0) (omega arith))
 
 array-borrow-prefix-list : tie.Need-array-borrow-prefix-list
 array-borrow-prefix-list c = search needs
@@ -62,12 +65,14 @@ array-borrow-prefix-list c = search needs
 slice-aggregate-hull-lent-2 : tie.Need-slice-aggregate-hull-lent-2
 slice-aggregate-hull-lent-2 c =
     let r = c .before .before .before .before .before .before .room2 .ensures in
-    sym (length-take-le (c .before .before .before .before .before .before .before .before .before .before .many .result) (c .before .before .before .before .before .before .room2 .result) (omega arith))
+    sym (length-take-le (c .before .before .before .before .before .before .before .before .before .before .many .result)
+    (c .before .before .before .before .before .before .room2 .result) (omega arith))
 
 hull-lent-requires : tie.Need-hull-lent-requires
 hull-lent-requires c κs =
     let r = c .before .before .before .before .before .before .before .room2 .ensures in
-    let l = length-take-le (c .before .before .before .before .before .before .before .before .before .before .before .many .result) (c .before .before .before .before .before .before .before .room2 .result) (omega arith) in
+    let l = length-take-le (c .before .before .before .before .before .before .before .before .before .before .before .many .result)
+    (c .before .before .before .before .before .before .before .room2 .result) (omega arith) in
     omega arith
 
 same-length : tie.Need-same-length

@@ -24,9 +24,11 @@ array-share-prefix-p c = search needs
 
 slice-aggregate-quad : tie.Need-slice-aggregate-quad
 slice-aggregate-quad c =
-    let l : length (c .before .before .read32 .last .1 .0) ≡ length (c .before .before .before .before .room .result) = c .before .before .read32 .kept .1 .0 in
+    let l : length (c .before .before .read32 .last .1 .0) ≡ length (c .before .before .before .before .room .result) =
+    c .before .before .read32 .kept .1 .0 in
     let r = c .before .before .before .before .room .ensures in
-    sym (length-take-le (length (c .before .before .before .before .before .before .before .before .args .args .now)) (c .before .before .read32 .last .1 .0) (omega arith))
+    sym (length-take-le (length (c .before .before .before .before .before .before .before .before .args .args .now))
+    (c .before .before .read32 .last .1 .0) (omega arith))
 
 quad-requires : tie.Need-quad-requires
 quad-requires c κs = search needs

@@ -42,9 +42,11 @@ array-share-prefix-bytes c = search needs
 
 slice-aggregate-listed-record : tie.Need-slice-aggregate-listed-record
 slice-aggregate-listed-record c =
-    let l : length (c .before .before .unpack .last .1 .0) ≡ length (c .before .before .before .before .before .record-room .result) = c .before .before .unpack .kept .1 .0 in
+    let l : length (c .before .before .unpack .last .1 .0) ≡ length (c .before .before .before .before .before .record-room .result) =
+    c .before .before .unpack .kept .1 .0 in
     let r = c .before .before .before .before .before .record-room .ensures in
-    sym (length-take-le (c .before .before .before .before .before .before .before .many .result) (c .before .before .unpack .last .1 .0) (omega arith))
+    sym (length-take-le (c .before .before .before .before .before .before .before .many .result) (c .before .before .unpack .last .1 .0)
+    (omega arith))
 
 listed-record-requires : tie.Need-listed-record-requires
 listed-record-requires c κs = search needs

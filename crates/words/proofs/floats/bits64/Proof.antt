@@ -1,3 +1,4 @@
+-- `words::floats::bits64` meets its contract. Assumes nothing.
 use Rattle.ieee.proofs.Tests.{ne-no-nan}
 use borrow.Author.Needs.{needs}
 use Rattle.words.proofs.floats.bits64.Statement.{statement}

@@ -1,3 +1,4 @@
+-- `words::floats::f32_of` meets its contract. Assumes nothing.
 use Rattle.ieee.proofs.Narrows.{no-nan-32}
 use borrow.Author.Needs.{needs}
 use Rattle.words.proofs.floats.f32_of.Statement.{statement}

@@ -1,3 +1,4 @@
+-- `words::floats::f64_of` meets its contract. Assumes nothing.
 use Rattle.ieee.proofs.Narrows.{no-nan-pattern-64}
 use borrow.Author.Needs.{needs}
 use Rattle.words.proofs.floats.f64_of.Statement.{statement}

@@ -1,3 +1,5 @@
+-- `words::floats::read32` meets its contract. The invariant: as many numbers as before. The measure is what is
+-- left of them. Assumes nothing.
 use lib.ListN.{length, length-set}
 use Prim.Native.Nat.{_-_}
 use mathlib.Core.Path.{_≡_}

@@ -1,3 +1,5 @@
+-- `words::floats::write64` meets its contract. The invariant: as many words as before. The measure is what is
+-- left of the numbers. Assumes nothing.
 use lib.ListN.{length}
 use Prim.Native.Nat.{_-_}
 use mathlib.Core.Path.{_≡_}

@@ -1,19 +1,15 @@
+-- `lcr_core::version::Version::after` meets its contract. Assumes nothing.
 use Rattle.lcr_core.proofs.Versions.{after-next, after-end}
 use borrow.Author.Needs.{needs}
 use Rattle.lcr_core.proofs.version.Version.after.Statement.{statement}
 use Rattle.lcr_core.proofs.version.Version.after.Tie as tie
-use Rattle.lcr_core.proofs.version.Version.after.Reads as reads
-use Rattle.lcr_core.proofs.version.Version.after.Lts as lts
 
--- src/version.rt:49:44
 add-t3 : tie.Need-add-t3
 add-t3 c = search needs
 
--- src/version.rt:49:13
 returns : tie.Need-returns
 returns c = after-next (c .before .before .before .args .self .0) (c .before .if1 .taken)
 
--- src/version.rt:45:5
 returns-2 : tie.Need-returns-2
 returns-2 c = after-end (c .before .before .args .self .0) (c .if1 .left)
 
