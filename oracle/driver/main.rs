@@ -1,6 +1,7 @@
 // The oracle's driver: each command reads standard input and writes what the Rust answers.
 #![allow(dead_code)]
 mod att;
+mod attempts;
 mod bench;
 mod border;
 mod calc;
@@ -21,7 +22,7 @@ mod transform;
 use std::io::{Read, Write};
 
 const AREAS: &[&calls::Area] =
-    &[&border::AREA, &ieee::AREA, &math::AREA, &transform::AREA, &picture::AREA, &marks::AREA, &fit::AREA, &ring::AREA, &outline::AREA];
+    &[&border::AREA, &ieee::AREA, &math::AREA, &transform::AREA, &marks::AREA, &fit::AREA, &ring::AREA, &attempts::AREA, &picture::AREA, &outline::AREA, &outline::LISTING];
 
 /// The areas of a name, or all of them.
 fn areas(name: &str) -> Vec<&'static calls::Area> {
@@ -40,15 +41,20 @@ fn main() {
     let say = |s: String| std::io::stdout().write_all(s.as_bytes()).unwrap();
     match a.get(1).map(|s| s.as_str()) {
         Some("traylist") => say(list::listing(&stdin())),
+        Some("sample") => std::io::stdout().write_all(&outline::sample()).unwrap(),
+        Some("program") => outline::program(&a[2], num(3, 1), num(4, 1000)),
         Some("dump") => say(list::dump(&stdin())),
         Some("attempt") => say(att::run(&att::decode(&stdin()))),
         Some("attempt-verbose") => say(att::verbose(&att::decode(&stdin()))),
+        Some("attempts") => attempts::run(num(2, 1), num(3, 1000)),
+        Some("attempt-case") => std::io::stdout().write_all(&attempts::bytes(num(2, 1), num(3, 0))).unwrap(),
         Some("calc") => calc::run(),
         Some("fuzz") => fuzz::run(num(2, 1), num(3, 10000)),
         Some("bench") if a.get(2).is_some_and(|s| s == "marks") => marks::bench(),
         Some("bench") if a.get(2).is_some_and(|s| s == "picture") => picture::bench(),
         Some("bench") if a.get(2).is_some_and(|s| s == "numbers") => numbers_bench::run(),
         Some("bench") if a.get(2).map(|s| s.as_str()) == Some("fit") => fit::bench(),
+        Some("bench") if a.get(2).is_some_and(|s| s == "ring") => attempts::bench(),
         Some("bench") if a.get(2).is_some_and(|s| s == "outline") => outline_bench::run(),
         Some("bench") => bench::run(),
         // wide SEED SECONDS [SIDE]: the picture door through its C function
@@ -61,7 +67,7 @@ fn main() {
             which.into_iter().for_each(|x| calls::compare(x, num(3, 1), seconds, num(5, u64::MAX)));
         }
         _ => {
-            eprintln!("usage: oracle traylist|dump|attempt|attempt-verbose|calc|fuzz SEED N|bench|vectors AREA|compare AREA|all SEED SECONDS [MOST]|wide SEED SECONDS [SIDE]");
+            eprintln!("usage: oracle traylist|sample|program PATH SEED N|dump|attempt|attempt-verbose|attempts SEED N|attempt-case SEED K|calc|fuzz SEED N|bench|wide SEED SECONDS [SIDE]|vectors AREA|compare AREA|all SEED SECONDS [MOST]");
             std::process::exit(2);
         }
     }

@@ -34,6 +34,32 @@ mod both {
         println!("{name:<24} {:>9.1} {:>9.1} {:>7.2}", a / reps as f64 * 1e9, b / reps as f64 * 1e9, b / a);
     }
 
+    type Apply = unsafe extern "C" fn(*const f64, usize, *const f32, usize, *mut f32, usize) -> u8;
+
+    /// The Rust's `apply` behind the signature of `lcr_apply`: the sum of each pixel's coordinates, so that both are used.
+    #[inline(never)]
+    unsafe extern "C" fn rust_apply(t: *const f64, lt: usize, uv: *const f32, n: usize, sums: *mut f32, m: usize) -> u8 {
+        if lt < 11 {
+            return 255;
+        }
+        let (t, uv, sums) = unsafe { (std::slice::from_raw_parts(t, lt), std::slice::from_raw_parts(uv, n), std::slice::from_raw_parts_mut(sums, m)) };
+        let t = Transform { m: [t[0], t[1], t[2], t[3], t[4], t[5], t[6], t[7]], radial: [t[8], t[9], t[10]] };
+        for (c, o) in uv.chunks_exact(2).zip(sums) {
+            let (x, y) = t.apply(c[0], c[1]);
+            *o = x + y;
+        }
+        0
+    }
+
+    /// The time of a thousand places, `each` of them a call.
+    fn applies(f: Apply, t: &[f64], uv: &[f32], out: &mut [f32], each: usize) -> f64 {
+        let s = Instant::now();
+        for (c, o) in uv.chunks_exact(2 * each).zip(out.chunks_exact_mut(each)) {
+            black_box(unsafe { f(black_box(t.as_ptr()), t.len(), black_box(c.as_ptr()), c.len(), black_box(o.as_mut_ptr()), o.len()) });
+        }
+        s.elapsed().as_secs_f64()
+    }
+
     pub fn run() {
         println!("{:<24} {:>9} {:>9} {:>7}", "nanoseconds a call", "Rust", "ours", "ratio");
         let mut r = Rng(7);
@@ -80,28 +106,21 @@ mod both {
         pair("from_quad", 2000,
             |i| { black_box(Transform::from_quad(black_box(pts(&src)), black_box(pts(&quads[i % 64])))); },
             |i| { black_box(unsafe { lcr_from_quad(black_box(src.as_ptr()), 8, black_box(quads[i % 64].as_ptr()), 8, out.as_mut_ptr(), 8) }); });
-        for (name, kappa) in [("apply, no lens", 0.0f32), ("apply, lens", 1e-7)] {
+        // both sides by one C function, with a list of places: all thousand in one call, then one place a call
+        for (name, kappa) in [("no lens", 0.0f32), ("lens", 1e-7)] {
             let t = Transform::from_quad(pts(&src), pts(&quads[0])).unwrap().with_radial(100.0, 100.0, kappa);
             let flat: Vec<f64> = t.m.iter().chain(&t.radial).copied().collect();
             let uv: Vec<f32> = (0..2000).map(|_| r.unit() as f32 * 21.0).collect();
-            // the sum of each pixel's coordinates, so that both are used, a thousand places a round
-            let (mut p, mut q) = (vec![0f32; 1000], vec![0f32; 1000]);
-            let per = 1000.0;
-            let (mut a, mut b) = (f64::MAX, f64::MAX);
-            for _ in 0..400 {
-                let s = Instant::now();
-                for (c, o) in black_box(&uv).chunks_exact(2).zip(&mut p) {
-                    let (x, y) = t.apply(c[0], c[1]);
-                    *o = x + y;
+            for each in [1000usize, 1] {
+                let (mut p, mut q) = (vec![0f32; 1000], vec![0f32; 1000]);
+                let (mut a, mut b) = (f64::MAX, f64::MAX);
+                for _ in 0..400 {
+                    a = a.min(applies(rust_apply, &flat, &uv, &mut p, each));
+                    b = b.min(applies(lcr_apply, &flat, &uv, &mut q, each));
                 }
-                black_box(&mut p);
-                a = a.min(s.elapsed().as_secs_f64());
-                let s = Instant::now();
-                black_box(unsafe { lcr_apply(flat.as_ptr(), 11, black_box(uv.as_ptr()), uv.len(), q.as_mut_ptr(), q.len()) });
-                b = b.min(s.elapsed().as_secs_f64());
+                assert!(p.iter().zip(&q).all(|(x, y)| x.to_bits() == y.to_bits()));
+                println!("{:<24} {:>9.1} {:>9.1} {:>7.2}", format!("apply, {name}, {each} a call"), a * 1e6, b * 1e6, b / a);
             }
-            assert!(p.iter().zip(&q).all(|(x, y)| x.to_bits() == y.to_bits()));
-            println!("{name:<24} {:>9.1} {:>9.1} {:>7.2}", a / per * 1e9, b / per * 1e9, b / a);
         }
     }
 }

@@ -31,8 +31,11 @@ pub fn call(kind: u32, args: &[u32], out: &mut [u32]) -> usize {
     if kind < 900 {
         return fit_calls::answer(kind, args, out);
     }
-    if kind < 1000 {
+    if kind < 910 {
         return ring_calls::answer(kind, args, out);
+    }
+    if kind < 1000 {
+        return attempt_calls::answer(kind, args, out);
     }
     0
 }

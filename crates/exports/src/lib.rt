@@ -4,6 +4,7 @@ pub mod marks_exports;
 pub mod numbers;
 pub mod outlines;
 pub mod pictures;
+pub mod rings;
 
 // One entry by its number (see crate `calls`): the words of its answer, first in `out`, and how
 // many.

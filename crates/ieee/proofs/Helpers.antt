@@ -1,52 +1,15 @@
 -- What the code's tests say. Assumes nothing.
 use mathlib.Core.Path.{_≡_, refl, sym, ap, _∙_, subst}
 use Prim.Native.Nat.{ℕ, zero, suc, min, _+_, _-_, _*_, _/_, _%_, _^_, _≤_, _<_}
-use native.Mathlib.Nat.{
-  zero-mul,
-  mul-one,
-  one-mul,
-  mul-pos,
-  zero-lt-suc,
-  lt-irrefl,
-  div-lt-iff-lt-mul,
-  le-div-iff-mul-le,
-  zero-div,
-  lt-of-lt-of-le,
-  mul-le-mul-right,
-  mul-le-mul-left,
-}
+use native.Mathlib.Nat.{zero-mul, mul-one, one-mul, mul-pos, zero-lt-suc, lt-irrefl, div-lt-iff-lt-mul, le-div-iff-mul-le, zero-div}
+use native.Mathlib.Nat.{lt-of-lt-of-le, mul-le-mul-right, mul-le-mul-left}
 use native.Mathlib.Omega.{arith}
 use mathlib.Core.Bool.{Bool, true, false, not, _&&_, _||_, Bool·beq, cond, true≢false, false≢true}
 use lib.IntN.{ℤ, pos}
 use lib.Dec.{T, leb, ltb, eqb, eqb→eq, ltb→lt, nltb→le, lt→ltb}
 use lib.Pow.{pow-pos, pow-mono}
-use lib.Ieee.{
-  Float,
-  nan,
-  inf,
-  fin,
-  Format,
-  binary32,
-  binary64,
-  prec,
-  hid,
-  ones,
-  top,
-  low,
-  up,
-  down,
-  odd,
-  lt,
-  eq,
-  ne,
-  neg,
-  fits,
-  isNan,
-  ofFields,
-  ofBits,
-  toBits,
-  toUnsigned,
-}
+use lib.Ieee.{Float, nan, inf, fin, Format, binary32, binary64, prec, hid, ones, top, low, up, down, odd, lt, eq, ne, neg, fits, isNan}
+use lib.Ieee.{ofFields, ofBits, toBits, toUnsigned}
 use lib.Ieee.Fits.{up-pos, down-pos, and-l}
 use lib.Ieee.Bits.{ofBits-toBits, is-true}
 use lib.Ieee.Casts.{toUnsigned-lt}
@@ -293,6 +256,3 @@ below-64 w (fin false m e) h k =
 
 pub trunc-fits : (w : ℕ) (x : Float) → toUnsigned w x < 2 ^ w
 trunc-fits w x = toUnsigned-lt w x
-
-pub no-nan-of : (x : Float) → ne x x ≡ false → T (not (isNan x))
-no-nan-of x h = nT-of (ne-nan x ∙ h)

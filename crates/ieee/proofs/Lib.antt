@@ -2,11 +2,16 @@ pub mod Values
 pub mod Tests
 pub mod Roots
 pub mod Guesses
+pub mod Grid
 pub mod RootNearest
 pub mod Narrows
+pub mod NarrowSteps
+pub mod Usual
 pub mod Helpers
+pub mod Sums
 pub mod Vals
 pub mod Signs
 pub mod Orders
 pub mod Wholes
 pub mod Decimals
+pub mod Controls

@@ -2,21 +2,19 @@
 -- and where neither of two is below the other they are equal, or the two zeros.
 -- For medians and searches over lists that hold no NaN, infinity or -0. Assumes nothing.
 use mathlib.Core.Path.{_≡_, refl, sym, ap, _∙_, subst}
-use mathlib.Core.Logic.{_⊎_, inl, inr}
-use Prim.Native.Nat.{ℕ, zero, suc, _+_, _-_, _*_, _%_, _^_, _≤_, _<_}
-use native.Mathlib.Nat.{mul-assoc, mul-one, zero-mul, not-le-of-lt, le-antisymm}
+use Prim.Native.Nat.{ℕ, zero, suc, _+_, _-_, _*_, _^_, _≤_, _<_}
+use native.Mathlib.Nat.{mul-assoc, mul-one, zero-mul, le-antisymm}
 use native.Mathlib.Omega.{arith}
-use mathlib.Core.Bool.{Bool, true, false, not, _&&_, true≢false, false≢true}
+use mathlib.Core.Bool.{Bool, true, false, not, true≢false, false≢true}
 use lib.IntN.{ℤ, pos, negsuc}
 use lib.Signed.{ltZ}
-use lib.Dec.{T, ltb, leb, eqb, ltb→lt, lt→ltb, nltb→le, leb→le}
-use lib.Pow.{pow-add, pow-pos, pow-lt}
+use lib.Dec.{T, ltb, ltb→lt, lt→ltb, nltb→le}
+use lib.Pow.{pow-add, pow-pos}
 use lib.Ieee.{Float, nan, inf, fin, binary32, up, down, fits, lt}
-use lib.Ieee.Fits.{and-l, and-r}
 use lib.Ieee.Bits.{is-true}
 use lib.Ieee.Scale.{finite}
 use lib.Ieee.Exact.{HasValue}
-use Rattle.ieee.proofs.Values.{value-unique, lt-or-ge}
+use Rattle.ieee.proofs.Values.{pow-back, fits-parts, value-unique}
 use Rattle.ieee.specs.Ops.{plain}
 use Rattle.ieee.specs.Val.{signed, Val}
 use Rattle.ieee.proofs.Vals.{lt-val}
@@ -38,22 +36,6 @@ unit-size s m (negsuc a) d =
     back : (a : ℕ) → a ≤ 149 → 149 - a + a ≡ 149
     back a h = omega arith
 
-    pow-back : (a l : ℕ) → 2 ^ a ≤ 2 ^ l → a ≤ l
-    pow-back a l h = go (lt-or-ge l a)
-      where
-        go : (l < a) ⊎ (a ≤ l) → a ≤ l
-        go (inl g) = absurd (not-le-of-lt (pow-lt g) h)
-        go (inr g) = g
-
-low-enough : (s : Bool) (m : ℕ) (e : ℤ) → T (fits binary32 (fin s (suc m) e)) → down e ≤ 2 ^ 149
-unfolding fits
-low-enough s m e f =
-    let A = eqb (suc m % 2) 1 in
-    let B = ltb (suc m) (2 ^ 24) in
-    let C = leb (down e) (2 ^ 149) in
-    let D = ltb (suc m * up e) (2 ^ 128 * down e) in
-    leb→le (down e) (2 ^ 149) (and-r (A && B) C (and-l (A && B && C) D f))
-
 -- the numerator over 2 ^ 149, which every finite `f32` has
 pub unit-val : (x : Float) → T (fits binary32 x) → T (finite x) → (z : ℤ) × Val x 149 z
 unit-val nan f t = absurd t
@@ -69,7 +51,7 @@ unit-val (fin s zero e) f t = (
   },
 )
 unit-val (fin s (suc m) e) f t = let u =
-    unit-size s (suc m) e (low-enough s m e f) in (signed s (u .0), record { minus = s; size = u .0; has = u .1; is = refl })
+    unit-size s (suc m) e (fits-parts s m e f .1) in (signed s (u .0), record { minus = s; size = u .0; has = u .1; is = refl })
 
 -- ---- the order of the whole numbers
 T-of : {b : Bool} → b ≡ true → T b

@@ -4,95 +4,25 @@
 use mathlib.Core.Path.{_≡_, refl, sym, ap, _∙_, subst}
 use mathlib.Core.Logic.{_⊎_, inl, inr}
 use Prim.Native.Nat.{ℕ, zero, suc, _+_, _-_, _*_, _/_, _%_, _^_, _≤_, _<_, compare, Ordering}
-use native.Mathlib.Nat.{
-  le-refl,
-  le-trans,
-  le-of-eq,
-  le-of-lt,
-  le-antisymm,
-  lt-of-lt-of-le,
-  lt-irrefl,
-  not-le-of-lt,
-  add-mul,
-  mul-assoc,
-  mul-one,
-  mul-right-comm,
-  mul-le-mul,
-  mul-le-mul-right,
-  mul-lt-mul-of-pos-right,
-  lt-of-mul-lt-mul-right,
-  eq-of-mul-eq-mul-right,
-  mul-div-cancel,
-  mul-mul-mul-comm,
-  mul-pos,
-  div-mul-le-self,
-  lt-div-mul-add,
-  suc-mul,
-  add-le-add,
-}
+use native.Mathlib.Nat.{div-lt-iff-lt-mul, lt-of-le-of-lt, le-refl, le-trans, le-of-eq, le-of-lt, le-antisymm, lt-of-lt-of-le, lt-irrefl}
+use native.Mathlib.Nat.{not-le-of-lt, add-mul, mul-assoc, mul-one, mul-right-comm, mul-le-mul, mul-le-mul-right, mul-lt-mul-of-pos-right}
+use native.Mathlib.Nat.{lt-of-mul-lt-mul-right, eq-of-mul-eq-mul-right, mul-div-cancel, mul-mul-mul-comm, mul-pos, div-mul-le-self}
+use native.Mathlib.Nat.{lt-div-mul-add, suc-mul, add-le-add}
 use native.Mathlib.Numerals.{add-one}
 use native.Mathlib.Omega.{arith}
-use mathlib.Core.Bool.{Bool, true, false, cond, _&&_, true≢false}
+use mathlib.Core.Bool.{true, false, true≢false}
 use lib.IntN.{ℤ, pos, negsuc}
-use lib.Dec.{T, leb, ltb, eqb, leb→le, ltb→lt, lit≤}
-use lib.Pow.{pow-add, pow-pos, pow-mono, shl-lt}
-use lib.Ieee.{Float, nan, inf, fin, binary32, up, down, size, nearest, units, odd, fits}
-use lib.Ieee.Digits.{size-lt, size-reaches}
-use lib.Ieee.Fits.{down-pos, and-l, and-r}
-use lib.Ieee.Exact.{HasValue, odd-sign}
+use lib.Dec.{T, lit≤}
+use lib.Pow.{pow-lt, pow-add, pow-pos, pow-mono, shl-lt}
+use lib.Ieee.{Float, nan, inf, fin, binary32, up, down, size, nearest, units, fits}
+use lib.Ieee.Digits.{size-lt, size-le, size-reaches}
+use lib.Ieee.Fits.{nearest-le, down-pos}
+use lib.Ieee.Exact.{HasValue, units-val}
 use Rattle.ieee.specs.Claims.{Nearest, RootNearest}
 use Rattle.ieee.specs.Root.{isqrt, rootAt, sqrt}
-use Rattle.ieee.proofs.Values.{lt-or-ge}
-use Rattle.ieee.proofs.Roots.{isqrt-is, compare-lt, compare-gt, compare-eq, core, rootAt-core, root-ge}
-
--- ---- squares
-sq : ℕ → ℕ → ℕ
-sq c k = c * 2 ^ k * (c * 2 ^ k)
-
-sq-shift : (q k : ℕ) → q * 2 ^ k * (q * 2 ^ k) ≡ q * q * 2 ^ (2 * k)
-sq-shift q k = mul-mul-mul-comm q (2 ^ k) q (2 ^ k) ∙ ap (λ (z : ℕ). q * q * z) (sym (pow-add 2 k k) ∙ ap (λ (z : ℕ). 2 ^ z) (both k))
-  where
-    both : (k : ℕ) → k + k ≡ 2 * k
-    both k = omega arith
-
--- ---- the values of the format next to a * 2 ^ k, for an a of 24 digits, or 2 ^ 24
-above-grid : (a k m j : ℕ) → 8388608 ≤ a → m < 16777216 → a * 2 ^ k < m * 2 ^ j → a * 2 ^ k + 2 ^ k ≤ m * 2 ^ j
-above-grid a k m j A M h = go (lt-or-ge j k)
-  where
-    few : j < k → 24 + j ≤ 23 + k
-    few l = omega arith
-
-    back : k ≤ j → j - k + k ≡ j
-    back g = omega arith
-
-    go : (j < k) ⊎ (k ≤ j) → a * 2 ^ k + 2 ^ k ≤ m * 2 ^ j
-    go (inl l) = absurd (not-le-of-lt h
-        (le-trans (le-of-lt (shl-lt 24 j M))
-        (le-trans (pow-mono (few l)) (le-trans (le-of-eq (pow-add 2 23 k)) (mul-le-mul-right (2 ^ k) A)))))
-    go (inr g) =
-        let b = m * 2 ^ (j - k) in
-        let e : b * 2 ^ k ≡ m * 2 ^ j =
-        mul-assoc m (2 ^ (j - k)) (2 ^ k) ∙ ap (λ (z : ℕ). m * z) (sym (pow-add 2 (j - k) k) ∙ ap (λ (z : ℕ). 2 ^ z) (back g)) in
-        let l : a < b = lt-of-mul-lt-mul-right (2 ^ k) (subst (λ (z : ℕ). a * 2 ^ k < z) (sym e) h) in
-        le-trans (le-of-eq (sym (suc-mul a (2 ^ k)))) (le-trans (mul-le-mul-right (2 ^ k) l) (le-of-eq e))
-
-below-grid : (a k m j : ℕ) → m < 16777216 → m * 2 ^ j < a * 2 ^ k → (m * 2 ^ j + 2 ^ k ≤ a * 2 ^ k) ⊎ (m * 2 ^ j < 8388608 * 2 ^ k)
-below-grid a k m j M h = go (lt-or-ge j k)
-  where
-    few : j < k → 24 + j ≤ 23 + k
-    few l = omega arith
-
-    back : k ≤ j → j - k + k ≡ j
-    back g = omega arith
-
-    go : (j < k) ⊎ (k ≤ j) → (m * 2 ^ j + 2 ^ k ≤ a * 2 ^ k) ⊎ (m * 2 ^ j < 8388608 * 2 ^ k)
-    go (inl l) = inr (lt-of-lt-of-le (shl-lt 24 j M) (le-trans (pow-mono (few l)) (le-of-eq (pow-add 2 23 k))))
-    go (inr g) =
-        let b = m * 2 ^ (j - k) in
-        let e : b * 2 ^ k ≡ m * 2 ^ j =
-        mul-assoc m (2 ^ (j - k)) (2 ^ k) ∙ ap (λ (z : ℕ). m * z) (sym (pow-add 2 (j - k) k) ∙ ap (λ (z : ℕ). 2 ^ z) (back g)) in
-        let l : b < a = lt-of-mul-lt-mul-right (2 ^ k) (subst (λ (z : ℕ). z < a * 2 ^ k) (sym e) h) in
-        inl (le-trans (le-of-eq (ap (λ (z : ℕ). z + 2 ^ k) (sym e) ∙ sym (suc-mul b (2 ^ k)))) (mul-le-mul-right (2 ^ k) l))
+use Rattle.ieee.proofs.Grid.{above-grid, below-grid}
+use Rattle.ieee.proofs.Values.{pow-back, fits-parts, short-fits, lt-or-ge}
+use Rattle.ieee.proofs.Roots.{sq-shift, isqrt-is, compare-lt, compare-gt, compare-eq, core, rootAt-core, root-ge}
 
 -- ---- which way the middle went
 settled : (a b q : ℕ) → ((nearest q (compare a b) ≡ q) × (a ≤ b)) ⊎ ((nearest q (compare a b) ≡ q + 1) × (b ≤ a))
@@ -234,19 +164,6 @@ compare-scale a b c C = go (lt-or-ge a b) (lt-or-ge b a)
     go (inr g) (inl l) = compare-gt (a * c) (b * c) (mul-lt-mul-of-pos-right l C) ∙ sym (compare-gt a b l)
     go (inr g) (inr f) = let e = le-antisymm f g in compare-eq (a * c) (b * c) (ap (λ (z : ℕ). z * c) e) ∙ sym (compare-eq a b e)
 
-same-value : (v : Float) (s t : Bool) (a b c : ℕ) → 0 < c → HasValue v s a c → HasValue v t b c → a ≡ b
-same-value nan s t a b c C h k = absurd h
-same-value (inf i) s t a b c C h k = absurd h
-same-value (fin i m e) s t a b c C h k = eq-of-mul-eq-mul-right (down e) (down-pos e) a b (sym (h .1) ∙ k .1)
-
-units-value : (p k Y : ℕ) → HasValue (units binary32 false p k) false Y (2 ^ 149) → p * 2 ^ k ≡ Y
-unfolding units
-units-value p k Y h = go (ltb (p * 2 ^ k) (2 ^ 277)) h
-  where
-    go : (b : Bool) → HasValue (cond b (odd 25 false p k 149) (inf false)) false Y (2 ^ 149) → p * 2 ^ k ≡ Y
-    go true h = same-value (odd 25 false p k 149) false false (p * 2 ^ k) Y (2 ^ 149) (pow-pos 149) (odd-sign 25 false p k 149) h
-    go false h = absurd h
-
 -- the value of an `f32` is below 2 ^ 24 times a power of two, in units
 on-grid : (z : Float) (Z : ℕ) → T (fits binary32 z) → HasValue z false Z (2 ^ 149) → (m : ℕ) × (j : ℕ) × (m < 16777216) × (m * 2 ^ j ≡ Z)
 unfolding fits
@@ -260,13 +177,7 @@ on-grid (fin s zero e) Z f h = (
       (native.Mathlib.Nat.zero-mul (down e)
       ∙ sym (ap (λ (y : ℕ). y * 2 ^ 149) (native.Mathlib.Nat.zero-mul (up e)) ∙ native.Mathlib.Nat.zero-mul (2 ^ 149)) ∙ h .1),
 )
-on-grid (fin s (suc m) e) Z f h =
-    let A = eqb (suc m % 2) 1 in
-    let B = ltb (suc m) (2 ^ 24) in
-    let C = leb (down e) (2 ^ 149) in
-    let D = ltb (suc m * up e) (2 ^ 128 * down e) in
-    at e (ltb→lt (suc m) (2 ^ 24) (and-r A B (and-l (A && B) C (and-l (A && B && C) D f))))
-    (leb→le (down e) (2 ^ 149) (and-r (A && B) C (and-l (A && B && C) D f))) (h .1)
+on-grid (fin s (suc m) e) Z f h = let g = fits-parts s m e f in at e (g .0) (g .1) (h .1)
   where
     at : (e : ℤ) → suc m < 16777216 → down e ≤ 2 ^ 149 → suc m * up e * 2 ^ 149 ≡ Z * down e
         → (m : ℕ) × (j : ℕ) × (m < 16777216) × (m * 2 ^ j ≡ Z)
@@ -290,13 +201,6 @@ on-grid (fin s (suc m) e) Z f h =
       where
         back : (a : ℕ) → a ≤ 149 → 149 - a + a ≡ 149
         back a h = omega arith
-
-        pow-back : (a l : ℕ) → 2 ^ a ≤ 2 ^ l → a ≤ l
-        pow-back a l h = go (lt-or-ge l a)
-          where
-            go : (l < a) ⊎ (a ≤ l) → a ≤ l
-            go (inl g) = absurd (not-le-of-lt (lib.Pow.pow-lt g) h)
-            go (inr g) = g
 
 -- the kept digits of the root of N
 kept : (N : ℕ) → 70368744177664 ≤ N
@@ -334,44 +238,88 @@ kept N h =
         go (inl l) = absurd (not-le-of-lt (lt-of-lt-of-le (size-lt (isqrt N)) (pow-mono (few l))) W)
         go (inr g) = g
 
-rootAt-nearest : (num den X Y m j : ℕ) → 0 < den → 0 < X → num * 2 ^ 149 ≡ X * den → HasValue (rootAt binary32 num den) false Y (2 ^ 149)
-    → m < 16777216 → Nearest (X * 2 ^ 149) Y (m * 2 ^ j)
-rootAt-nearest num den X Y m j D P h v M =
+-- what is kept of the root of N, and how many digits are dropped
+abbrev cutOf : ℕ → ℕ
+cutOf N = size (isqrt N) - 24
+
+abbrev keptOf : ℕ → ℕ
+keptOf N = isqrt N / 2 ^ cutOf N
+
+abbrev nearOf : ℕ → ℕ
+nearOf N = nearest (keptOf N) (compare (4 * N) ((2 * keptOf N + 1) * (2 * keptOf N + 1) * 2 ^ (2 * cutOf N)))
+
+root-units : (num den X : ℕ) → 0 < den → num * 2 ^ 149 ≡ X * den
+    → rootAt binary32 num den ≡ units binary32 false (nearOf (X * 2 ^ 149)) (cutOf (X * 2 ^ 149))
+root-units num den X D h =
     let N = X * 2 ^ 149 in
     let n = num * 2 ^ 298 in
+    let k = cutOf N in
+    let q = keptOf N in
     let e : n ≡ N * den = sym (mul-assoc num (2 ^ 149) (2 ^ 149)) ∙ ap (λ (z : ℕ). z * 2 ^ 149) h ∙ mul-right-comm X den (2 ^ 149) in
-    let w = isqrt N in
-    let k = size w - 24 in
-    let q = w / 2 ^ k in
-    let big : 70368744177664 ≤ N = le-trans (lit≤ tt) (mul-le-mul-right (2 ^ 149) P) in
-    let f = kept N big in
-    let is : rootAt binary32 num den ≡ units binary32 false (nearest q (compare (4 * N) ((2 * q + 1) * (2 * q + 1) * 2 ^ (2 * k)))) k =
     rootAt-core num den
     ∙ ap (λ (z : ℕ). core n den (isqrt z) (size (isqrt z) - 24)) (ap (λ (z : ℕ). z / den) e ∙ mul-div-cancel N D)
     ∙ ap (λ (o : Ordering). units binary32 false (nearest q o) k)
     (ap (λ (z : ℕ). compare z ((2 * q + 1) * (2 * q + 1) * (2 ^ (2 * k) * den))) (ap (λ (z : ℕ). 4 * z) e ∙ sym (mul-assoc 4 N den))
     ∙ ap (λ (z : ℕ). compare (4 * N * den) z) (sym (mul-assoc ((2 * q + 1) * (2 * q + 1)) (2 ^ (2 * k)) den))
-    ∙ compare-scale (4 * N) ((2 * q + 1) * (2 * q + 1) * 2 ^ (2 * k)) den D) in
-    subst (λ (y : ℕ). Nearest N y (m * 2 ^ j))
-    (units-value (nearest q (compare (4 * N) ((2 * q + 1) * (2 * q + 1) * 2 ^ (2 * k)))) k Y
-    (subst (λ (v : Float). HasValue v false Y (2 ^ 149)) is v))
-    (numbers N q k m j (f .0) M (f .1) (f .2))
+    ∙ compare-scale (4 * N) ((2 * q + 1) * (2 * q + 1) * 2 ^ (2 * k)) den D)
 
-pub sqrt-nearest : (x z : Float) (X Y Z : ℕ) → HasValue x false X (2 ^ 149) → 0 < X → HasValue (sqrt binary32 x) false Y (2 ^ 149)
-    → T (fits binary32 z) → HasValue z false Z (2 ^ 149) → Nearest (X * 2 ^ 149) Y Z
-unfolding sqrt
-sqrt-nearest nan z X Y Z a p b f c = absurd a
-sqrt-nearest (inf s) z X Y Z a p b f c = absurd a
-sqrt-nearest (fin s zero e) z X Y Z a p b f c =
+-- ---- the root is far below an infinity
+few-digits : (N : ℕ) → N < 2 ^ 426 → size (isqrt N) ≤ 213
+few-digits N h = size-le (isqrt N) 213 (go (lt-or-ge (isqrt N) (2 ^ 213)))
+  where
+    go : (isqrt N < 2 ^ 213) ⊎ (2 ^ 213 ≤ isqrt N) → isqrt N < 2 ^ 213
+    go (inl l) = l
+    go (inr g) = absurd (not-le-of-lt h (le-trans (le-of-eq (pow-add 2 213 213)) (le-trans (mul-le-mul g g) (isqrt-is N .0))))
+
+near-short : (N : ℕ) → nearOf N ≤ 16777216
+near-short N =
+    le-trans (nearest-le (keptOf N) (compare (4 * N) ((2 * keptOf N + 1) * (2 * keptOf N + 1) * 2 ^ (2 * cutOf N))))
+    (div-lt-iff-lt-mul (pow-pos (cutOf N)) .1
+    (lt-of-lt-of-le (size-lt (isqrt N)) (le-trans (pow-mono (fits-in (size (isqrt N)))) (le-of-eq (pow-add 2 24 (cutOf N))))))
+  where
+    fits-in : (z : ℕ) → z ≤ 24 + (z - 24)
+    fits-in z = omega arith
+
+near-below : (N : ℕ) → N < 2 ^ 426 → nearOf N * 2 ^ cutOf N < 2 ^ 277
+near-below N h =
+    lt-of-le-of-lt (mul-le-mul-right (2 ^ cutOf N) (near-short N))
+    (subst (λ (z : ℕ). z < 2 ^ 277) (pow-add 2 24 (cutOf N)) (pow-lt (low (size (isqrt N)) (few-digits N h))))
+  where
+    low : (z : ℕ) → z ≤ 213 → 24 + (z - 24) < 277
+    low z h = omega arith
+
+-- the square of the root of a finite value, in smallest values
+square-below : (a d X : ℕ) → 0 < d → a * 2 ^ 149 ≡ X * d → a < 2 ^ 128 * d → X * 2 ^ 149 < 2 ^ 426
+square-below a d X D e h =
+    subst (λ (z : ℕ). X * 2 ^ 149 < z) (sym (pow-add 2 277 149))
+    (mul-lt-mul-of-pos-right
+    (lt-of-mul-lt-mul-right d
+    (subst (λ (z : ℕ). z < 2 ^ 277 * d) e
+    (subst (λ (z : ℕ). a * 2 ^ 149 < z) (mul-right-comm (2 ^ 128) d (2 ^ 149) ∙ ap (λ (z : ℕ). z * d) (sym (pow-add 2 128 149)))
+    (mul-lt-mul-of-pos-right h (pow-pos 149)))))
+    (pow-pos 149))
+
+pub root-nearest : RootNearest
+unfolding RootNearest sqrt
+root-nearest nan X f a p = absurd a
+root-nearest (inf s) X f a p = absurd a
+root-nearest (fin s zero e) X f a p =
     absurd (lt-irrefl 0 (subst (λ (z : ℕ). 0 < z)
     (sym (a .1) ∙ ap (λ (z : ℕ). z * 2 ^ 149) (native.Mathlib.Nat.zero-mul (up e)) ∙ native.Mathlib.Nat.zero-mul (2 ^ 149))
     (mul-pos p (down-pos e))))
-sqrt-nearest (fin true (suc m) e) z X Y Z a p b f c = absurd (true≢false (a .0))
-sqrt-nearest (fin false (suc m) e) z X Y Z a p b f c =
-    let g = on-grid z Z f c in
-    subst (λ (t : ℕ). Nearest (X * 2 ^ 149) Y t) (g .3)
-    (rootAt-nearest (suc m * up e) (down e) X Y (g .0) (g .1) (down-pos e) p (a .1) b (g .2))
-
-pub root-nearest : RootNearest
-unfolding RootNearest
-root-nearest = sqrt-nearest
+root-nearest (fin true (suc m) e) X f a p = absurd (true≢false (a .0))
+root-nearest (fin false (suc m) e) X f a p =
+    let N = X * 2 ^ 149 in
+    let is = root-units (suc m * up e) (down e) X (down-pos e) (a .1) in
+    let below = near-below N (square-below (suc m * up e) (down e) X (down-pos e) (a .1) (fits-parts false m e f .2)) in
+    let big : 70368744177664 ≤ N = le-trans (lit≤ tt) (mul-le-mul-right (2 ^ 149) p) in
+    let k = kept N big in (
+      nearOf N * 2 ^ cutOf N,
+      subst (λ (v : Float). HasValue v false (nearOf N * 2 ^ cutOf N) (2 ^ 149)) (sym is)
+          (units-val binary32 false (nearOf N) (cutOf N) below),
+      subst (λ (v : Float). T (fits binary32 v)) (sym is) (short-fits false (nearOf N) (cutOf N) (near-short N) below),
+      λ z Z g c.
+          let at = on-grid z Z g c in
+          subst (λ (t : ℕ). Nearest N (nearOf N * 2 ^ cutOf N) t) (at .3)
+          (numbers N (keptOf N) (cutOf N) (at .0) (at .1) (k .0) (at .2) (k .1) (k .2)),
+    )

@@ -2,34 +2,10 @@
 use mathlib.Core.Path.{_≡_, refl, sym, ap, _∙_, subst}
 use mathlib.Core.Logic.{_⊎_, inl, inr}
 use Prim.Native.Nat.{ℕ, zero, suc, _+_, _-_, _*_, _/_, _%_, _^_, _≤_, _<_, compare, Ordering, Ordering·lt, Ordering·eq, Ordering·gt}
-use native.Mathlib.Nat.{
-  le-trans,
-  le-of-eq,
-  le-antisymm,
-  lt-of-lt-of-le,
-  not-le-of-lt,
-  lt-irrefl,
-  mul-add,
-  add-mul,
-  mul-comm,
-  mul-assoc,
-  mul-right-comm,
-  mul-one,
-  zero-mul,
-  mul-le-mul,
-  mul-le-mul-right,
-  mul-lt-mul-of-pos-right,
-  mul-pos,
-  mul-div-cancel,
-  pow-suc,
-  pow-le-pow-left,
-  div-lt-iff-lt-mul,
-  le-div-iff-mul-le,
-  div-eq-of-lt-le,
-  zero-lt-suc,
-  mul-mul-mul-comm,
-  zero-add,
-}
+use native.Mathlib.Nat.{le-trans, le-of-eq, le-antisymm, lt-of-lt-of-le, not-le-of-lt, lt-irrefl, mul-add, add-mul, mul-comm, mul-assoc}
+use native.Mathlib.Nat.{mul-right-comm, mul-one, zero-mul, mul-le-mul, mul-le-mul-right, mul-lt-mul-of-pos-right, mul-pos, mul-div-cancel}
+use native.Mathlib.Nat.{pow-suc, pow-le-pow-left, div-lt-iff-lt-mul, le-div-iff-mul-le, div-eq-of-lt-le, zero-lt-suc, mul-mul-mul-comm}
+use native.Mathlib.Nat.{zero-add}
 use native.Mathlib.Numerals.{add-one}
 use native.Mathlib.Omega.{arith}
 use mathlib.Core.Bool.{Bool, true, false, not, cond, true≢false}
@@ -132,7 +108,7 @@ compare-eq a b e = subst (λ (b : ℕ). compare a b ≡ Ordering·eq) e (go (com
     go Ordering·gt t = absurd t
 
 -- ---- the root of M * 4 ^ k, with M of 47 or 48 digits
-sq-shift : (q k : ℕ) → q * 2 ^ k * (q * 2 ^ k) ≡ q * q * 2 ^ (2 * k)
+pub sq-shift : (q k : ℕ) → q * 2 ^ k * (q * 2 ^ k) ≡ q * q * 2 ^ (2 * k)
 sq-shift q k = mul-mul-mul-comm q (2 ^ k) q (2 ^ k) ∙ ap (λ (z : ℕ). q * q * z) (sym (pow-add 2 k k) ∙ ap (λ (z : ℕ). 2 ^ z) (both k))
   where
     both : (k : ℕ) → k + k ≡ 2 * k

@@ -3,57 +3,19 @@
 use mathlib.Core.Path.{_≡_, refl, sym, ap, _∙_, subst}
 use mathlib.Core.Logic.{_⊎_, inl, inr}
 use Prim.Native.Nat.{ℕ, zero, suc, min, _+_, _-_, _*_, _/_, _%_, _^_, _≤_, _<_}
-use native.Mathlib.Nat.{
-  mul-comm,
-  mul-right-comm,
-  mul-div-cancel,
-  mul-div-mul-right,
-  mul-one,
-  eq-or-lt-of-le,
-  le-antisymm,
-  lt-of-le-of-lt,
-  lt-of-lt-of-le,
-  lt-of-not-le,
-  lt-irrefl,
-  mul-le-mul-right,
-  le-trans,
-  le-of-eq,
-  add-assoc,
-  mul-zero,
-  add-zero,
-  add-comm,
-  div-one,
-}
+use native.Mathlib.Nat.{not-le-of-lt, mul-comm, mul-right-comm, mul-div-cancel, mul-div-mul-right, mul-one, eq-or-lt-of-le, le-antisymm}
+use native.Mathlib.Nat.{lt-of-lt-of-le, lt-of-not-le, lt-irrefl, mul-le-mul-right, le-trans, le-of-eq, add-assoc, mul-zero, add-zero}
+use native.Mathlib.Nat.{add-comm, div-one}
 use native.Mathlib.Omega.{arith}
-use mathlib.Core.Bool.{Bool, true, false, not, cond}
-use lib.Dec.{T, leb, ltb, eqb, eqb→eq, ltb→lt, nltb→le, not-T}
+use mathlib.Core.Bool.{_&&_, Bool, true, false, not, cond}
+use lib.IntN.{ℤ}
+use lib.Dec.{leb→le, lt→ltb, T, leb, ltb, eqb, eqb→eq, ltb→lt, nltb→le, not-T}
 use lib.Pow.{pow-add, pow-pos, pow-mono, pow-lt, shl-lt}
-use lib.Ieee.{
-  Float,
-  nan,
-  inf,
-  fin,
-  Format,
-  prec,
-  emax,
-  low,
-  up,
-  down,
-  size,
-  odd,
-  units,
-  fits,
-  hid,
-  ones,
-  top,
-  ofFields,
-  ofBits,
-  toBits,
-  binary32,
-}
+use lib.Ieee.{Float, nan, inf, fin, Format, prec, low, up, down, size, odd, units, fits, hid, ones, top, ofFields, ofBits, toBits}
+use lib.Ieee.{binary32}
 use lib.Ieee.Digits.{size-lt, size-le}
-use lib.Ieee.Fits.{down-pos, odd-fits, inf-fits}
-use lib.Ieee.Bits.{ofBits-toBits, cond-no}
+use lib.Ieee.Fits.{and-l, and-r, down-pos, odd-fits}
+use lib.Ieee.Bits.{is-true, ofBits-toBits, cond-no}
 use lib.Ieee.Exact.{HasValue, units-val, odd-sign}
 
 -- ---- the bit pattern of a value, from its sign and its size in the format's smallest values
@@ -96,6 +58,28 @@ size-exact a n lo hi =
     le-antisymm (size-le n (suc a) hi)
     (lt-of-not-le (λ (g : size n ≤ a). lt-irrefl n (lt-of-lt-of-le (size-lt n) (le-trans (pow-mono g) lo))))
 
+-- ---- a value's digits and its place
+pub pow-back : (a l : ℕ) → 2 ^ a ≤ 2 ^ l → a ≤ l
+pow-back a l h = go (lt-or-ge l a)
+  where
+    go : (l < a) ⊎ (a ≤ l) → a ≤ l
+    go (inl g) = absurd (not-le-of-lt (pow-lt g) h)
+    go (inr g) = g
+
+pub fits-parts : (s : Bool) (m : ℕ) (e : ℤ) → T (fits binary32 (fin s (suc m) e))
+    → (suc m < 2 ^ 24) × (down e ≤ 2 ^ 149) × (suc m * up e < 2 ^ 128 * down e)
+unfolding fits
+fits-parts s m e f =
+    let A = eqb (suc m % 2) 1 in
+    let B = ltb (suc m) (2 ^ 24) in
+    let C = leb (down e) (2 ^ 149) in
+    let D = ltb (suc m * up e) (2 ^ 128 * down e) in
+    let g = and-l (A && B && C) D f in (
+      ltb→lt (suc m) (2 ^ 24) (and-r A B (and-l (A && B) C g)),
+      leb→le (down e) (2 ^ 149) (and-r (A && B) C g),
+      ltb→lt (suc m * up e) (2 ^ 128 * down e) (and-r (A && B && C) D f),
+    )
+
 -- ---- reading a pattern: a finite value is its digits, with the leading one, times a power of two
 abbrev pub field : Format → ℕ → ℕ
 field f b = b % top f / hid f
@@ -135,16 +119,15 @@ unfolding ofBits
 decode f b h = fields-val f (leb (top f) b) (field f b) (b % hid f) h
 
 -- ---- writing a pattern: q * 2 ^ k smallest values of an `f32` have the pattern k * 2 ^ 23 + q, with the sign
-pub units-fits : (f : Format) (s : Bool) (q k : ℕ) → q ≤ 2 ^ prec f → T (fits f (units f s q k))
+units-odd : (s : Bool) (q k : ℕ) → q * 2 ^ k < 2 ^ 277 → units binary32 s q k ≡ odd 25 s q k 149
 unfolding units
-units-fits f s q k a = go (ltb (q * 2 ^ k) (2 ^ (low f + suc (emax f)))) (ltb→lt (q * 2 ^ k) (2 ^ (low f + suc (emax f))))
-  where
-    go : (b : Bool) → (T b → q * 2 ^ k < 2 ^ (low f + suc (emax f))) → T (fits f (cond b (odd (suc (prec f)) s q k (low f)) (inf s)))
-    go true h = odd-fits f (suc (prec f)) s q k (lt-of-le-of-lt a (pow-lt (lt-suc-self' (prec f)))) a (h tt)
-      where
-        lt-suc-self' : (p : ℕ) → p < suc p
-        lt-suc-self' p = omega arith
-    go false h = inf-fits f s
+units-odd s q k below = ap (λ (b : Bool). cond b (odd 25 s q k 149) (inf s)) (is-true (ltb (q * 2 ^ k) (2 ^ 277)) (lt→ltb (q * 2 ^ k) (2 ^ 277) below))
+
+-- what is below the infinity and has few digits is a value of the format
+pub short-fits : (s : Bool) (q k : ℕ) → q ≤ 16777216 → q * 2 ^ k < 2 ^ 277 → T (fits binary32 (units binary32 s q k))
+short-fits s q k few below =
+    let fewer : q < 33554432 = omega arith in
+    subst (λ (v : Float). T (fits binary32 v)) (sym (units-odd s q k below)) (odd-fits binary32 25 s q k fewer few below)
 
 -- the digits and the dropped places of q * 2 ^ k
 abbrev Cut : ℕ → ℕ → Type 0
@@ -229,7 +212,7 @@ units-bits s q k h lead p =
     let v = units binary32 s q k in
     let n = q * 2 ^ k in
     let val : HasValue v s n (2 ^ 149) = units-val binary32 s q k (room q k h p lead) in
-    sym (ofBits-toBits binary32 v (units-fits binary32 s q k h))
+    sym (ofBits-toBits binary32 v (short-fits s q k h (room q k h p lead)))
     ∙ ap (λ (b : ℕ). ofBits binary32 b)
     (toBits-value binary32 v s n (2 ^ 149) (pow-pos 149) val
     ∙ ap (λ (z : ℕ). pattern binary32 s z) (mul-div-cancel n (pow-pos 149))

@@ -1,10 +1,11 @@
 // The pattern of an f64 that is rounded to f32, by whole numbers.
 ghost use mathlib.Core.Path.{_≡_};
+ghost use mathlib.Core.Bool.{true};
 ghost use Prim.Native.Nat.{min, _+_, _-_, _*_, _%_, _^_, _<_, _≤_};
 ghost use lib.Ieee as Ieee;
 ghost use lib.Ieee.{binary32, binary64};
 ghost use lib.Ieee.Nearest.{closest};
-ghost use Rattle.ieee.specs.Narrow.{narrow};
+ghost use Rattle.ieee.specs.Narrow.{narrow, usual64};
 ghost use Rattle.ieee.specs.Patterns.{mant64, expo64, narrowBits};
 
 // The digits of a finite f64's pattern, with the leading one.
@@ -106,4 +107,31 @@ pub fn narrow_bits(b: u64) -> u32
         return sign + any_bits(a);
     }
     sign + normal_bits(a)
+}
+
+// Whether x is from 2^-126 up to, but not at, 2^127.
+pub fn usual(x: f64) -> bool
+    ensures { λ r. ⌜ r ≡ usual64 x ⌝ }
+{
+    if x < 1.1754943508222875e-38 {
+        return false;
+    }
+    x < 1.7014118346046923e38
+}
+
+// The pattern of such a value, by one sum.
+fn usual_bits(b: u64) -> u32
+    requires { ⌜ 4039728865751334912 ≤ b ⌝ }
+    requires { ⌜ b < 5179139571476070400 ⌝ }
+    ensures { λ r. ⌜ (r ≡ narrowBits b) × (r < 2139095040) ⌝ }
+{
+    ((b - 0x3800_0000_0000_0000 + 0x0fff_ffff + b / 0x2000_0000 % 2) / 0x2000_0000) as u32
+}
+
+// Such a value as an f32.
+pub fn near(x: f64) -> f32
+    requires { ⌜ usual64 x ≡ true ⌝ }
+    ensures { λ r. ⌜ r ≡ narrow x ⌝ }
+{
+    f32::from_bits(usual_bits(f64::to_bits(x)))
 }

@@ -9,7 +9,8 @@ use lib.ListN.{length, take, drop, length-replicate}
 use lib.Ieee.{Float, binary64, ofBits}
 use Rattle.laws.proofs.Steps.{take-replicate, drop-replicate}
 use borrow.Author.Tests.{eq-eqb, ne-eqb, le-leb, lt-leb, lt-ltb, le-ltb}
-use Rattle.math.specs.Answers.{refuse, orRefuse, solutionSaid}
+use Rattle.laws.specs.Check.{orRefuse}
+use Rattle.math.specs.Answers.{refuse, solutionSaid}
 use Rattle.math.specs.Equations.{zeros, without, solution, solveAnswer, normal, fitted, fitAnswer}
 
 -- ---- lists of +0
@@ -41,11 +42,12 @@ size-ok : (n : ℕ) → 1 ≤ n → n ≤ 8 → (leb 1 n && leb n 8) ≡ true
 size-ok n h l = ap (λ (b : Bool). b && leb n 8) (le-leb 1 n h) ∙ le-leb n 8 l
 
 solve-by : (n : ℕ) (a b : List Float) (s t : Bool) → (leb 1 n && leb n 8) ≡ s → (eqb (length a) (n * n) && eqb (length b) n) ≡ t
-    → solveAnswer n a b ≡ orRefuse s 9 (orRefuse t 9 (solutionSaid (solution n a b)))
+    → solveAnswer n a b ≡ orRefuse s (refuse 9) (orRefuse t (refuse 9) (solutionSaid (solution n a b)))
 unfolding solveAnswer
 solve-by n a b s t e f =
-    ap (λ (z : Bool). orRefuse z 9 (orRefuse (eqb (length a) (n * n) && eqb (length b) n) 9 (solutionSaid (solution n a b)))) e
-    ∙ ap (λ (z : Bool). orRefuse s 9 (orRefuse z 9 (solutionSaid (solution n a b)))) f
+    let last = solutionSaid (solution n a b) in
+    ap (λ (z : Bool). orRefuse z (refuse 9) (orRefuse (eqb (length a) (n * n) && eqb (length b) n) (refuse 9) last)) e
+    ∙ ap (λ (z : Bool). orRefuse s (refuse 9) (orRefuse z (refuse 9) last)) f
 
 pub solve-low : (n : ℕ) (a b : List Float) → n < 1 → refuse 9 ≡ solveAnswer n a b
 solve-low n a b h = sym (solve-by n a b false _ (size-low n h) refl)
@@ -67,10 +69,12 @@ solve-pass n a b h l e f =
     sym (solve-by n a b true true (size-ok n h l) (ap (λ (z : Bool). z && eqb (length b) n) (eq-eqb _ _ e) ∙ eq-eqb _ _ f))
 
 fit-by : (n : ℕ) (a b : List Float) (s t : Bool) → (leb 1 n && leb n 8) ≡ s → eqb (length a) (length b * n) ≡ t
-    → fitAnswer n a b ≡ orRefuse s 9 (orRefuse t 9 (solutionSaid (fitted n a b)))
+    → fitAnswer n a b ≡ orRefuse s (refuse 9) (orRefuse t (refuse 9) (solutionSaid (fitted n a b)))
 unfolding fitAnswer
-fit-by n a b s t e f = ap (λ (z : Bool). orRefuse z 9 (orRefuse (eqb (length a) (length b * n)) 9 (solutionSaid (fitted n a b)))) e
-    ∙ ap (λ (z : Bool). orRefuse s 9 (orRefuse z 9 (solutionSaid (fitted n a b)))) f
+fit-by n a b s t e f =
+    let last = solutionSaid (fitted n a b) in
+    ap (λ (z : Bool). orRefuse z (refuse 9) (orRefuse (eqb (length a) (length b * n)) (refuse 9) last)) e
+    ∙ ap (λ (z : Bool). orRefuse s (refuse 9) (orRefuse z (refuse 9) last)) f
 
 pub fit-low : (n : ℕ) (a b : List Float) → n < 1 → refuse 9 ≡ fitAnswer n a b
 fit-low n a b h = sym (fit-by n a b false _ (size-low n h) refl)

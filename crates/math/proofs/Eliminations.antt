@@ -75,23 +75,23 @@ clear-by : (n c : ℕ) (e : Float) (r : ℕ) (a b : List Float) (t : Bool) → e
 unfolding clear
 clear-by n c e r a b t h = ap (λ (t : Bool). cond t (sys a b) (freed n c r (div binary64 (at a (r * n + c)) e) (sys a b))) h
 
--- a turn of the loop that leaves the row, and one that frees it
-pub clear-none : (n c : ℕ) (e : Float) (r : ℕ) (a b : List Float) (z : System) → r < n
-    → eq (div binary64 (at a (r * n + c)) e) (ofBits binary64 0) ≡ true
-    → clearOn n c e (n - r) r (sys a b) ≡ z → clearOn n c e (n - (r + 1)) (r + 1) (sys a b) ≡ z
-clear-none n c e r a b z h t q =
-    ap (clearOn n c e (n - (r + 1)) (r + 1)) (sym (clear-by n c e r a b true t)) ∙ sym (clear-step n c e r (sys a b) h) ∙ q
+-- a factor of 0 leaves the row, another one eliminates the column
+pub clear-none : (n c : ℕ) (e : Float) (r : ℕ) (a b : List Float) → eq (div binary64 (at a (r * n + c)) e) (ofBits binary64 0) ≡ true
+    → sys a b ≡ clear n c e r (sys a b)
+clear-none n c e r a b t = sym (clear-by n c e r a b true t)
 
-pub clear-some : (n c : ℕ) (e : Float) (r : ℕ) (a b a′ : List Float) (z : System) → r < n
+pub clear-some : (n c : ℕ) (e : Float) (r : ℕ) (a b a′ : List Float)
     → eq (div binary64 (at a (r * n + c)) e) (ofBits binary64 0) ≡ false
     → a′ ≡ rowLess (r * n) (c * n) (div binary64 (at a (r * n + c)) e) (n - c) c a
-    → clearOn n c e (n - r) r (sys a b) ≡ z
-    → clearOn n c e (n - (r + 1)) (r + 1)
-    (sys a′ (set b r (sub binary64 (at b r) (mul binary64 (div binary64 (at a (r * n + c)) e) (at b c))))) ≡ z
-clear-some n c e r a b a′ z h t p q =
-    ap (λ (w : List Float). clearOn n c e (n - (r + 1)) (r + 1)
-    (sys w (set b r (sub binary64 (at b r) (mul binary64 (div binary64 (at a (r * n + c)) e) (at b c)))))) p
-    ∙ ap (clearOn n c e (n - (r + 1)) (r + 1)) (sym (clear-by n c e r a b false t)) ∙ sym (clear-step n c e r (sys a b) h) ∙ q
+    → sys a′ (set b r (sub binary64 (at b r) (mul binary64 (div binary64 (at a (r * n + c)) e) (at b c)))) ≡ clear n c e r (sys a b)
+clear-some n c e r a b a′ t p =
+    ap (λ (w : List Float). sys w (set b r (sub binary64 (at b r) (mul binary64 (div binary64 (at a (r * n + c)) e) (at b c))))) p
+    ∙ sym (clear-by n c e r a b false t)
+
+-- one row more
+pub clear-turn : (n c : ℕ) (e : Float) (r : ℕ) (s s′ z : System) → r < n → s′ ≡ clear n c e r s → clearOn n c e (n - r) r s ≡ z
+    → clearOn n c e (n - (r + 1)) (r + 1) s′ ≡ z
+clear-turn n c e r s s′ z h p q = ap (clearOn n c e (n - (r + 1)) (r + 1)) p ∙ sym (clear-step n c e r s h) ∙ q
 
 -- ---- places in the matrix
 pub row-in : {r n : ℕ} → r < n → r * n + n ≤ n * n

@@ -41,7 +41,8 @@ use Rattle.math.specs.Lists.{at}
 use Rattle.ieee.specs.Ops.{plain}
 use Rattle.ieee.specs.Constants.{1·4826}
 use Rattle.math.specs.Median.{SameValues, half, median, usable, allUsable, bad, Numbers, away, madSigma}
-use Rattle.math.specs.Answers.{Said, refuse, orRefuse}
+use Rattle.laws.specs.Check.{orRefuse}
+use Rattle.math.specs.Answers.{Said, refuse}
 use Rattle.math.specs.Select.{Selected, Largest}
 use Rattle.math.specs.Median.{checked}
 use Rattle.math.proofs.Order.{Good, good-of}
@@ -187,12 +188,13 @@ away-numbers s c h k =
 -- ---- the doors
 pub refuse-9 : (s : List Float) (a : Said) → 4096 < length s → refuse 9 ≡ checked s a
 unfolding checked
-refuse-9 s a h = sym (ap (λ (b : Bool). orRefuse b 9 (orRefuse (allUsable s) 10 a)) (lt-leb _ _ h))
+refuse-9 s a h = sym (ap (λ (b : Bool). orRefuse b (refuse 9) (orRefuse (allUsable s) (refuse 10) a)) (lt-leb _ _ h))
 
-within : (s : List Float) (a : Said) (t : Bool) → length s ≤ 4096 → allUsable s ≡ t → orRefuse t 10 a ≡ checked s a
+within : (s : List Float) (a : Said) (t : Bool) → length s ≤ 4096 → allUsable s ≡ t → orRefuse t (refuse 10) a ≡ checked s a
 unfolding checked
 within s a t h e =
-    sym (ap (λ (b : Bool). orRefuse b 9 (orRefuse (allUsable s) 10 a)) (le-leb _ _ h) ∙ ap (λ (b : Bool). orRefuse b 10 a) e)
+    sym (ap (λ (b : Bool). orRefuse b (refuse 9) (orRefuse (allUsable s) (refuse 10) a)) (le-leb _ _ h)
+    ∙ ap (λ (b : Bool). orRefuse b (refuse 10) a) e)
 
 pub refuse-10 : (s : List Float) (a : Said) → length s ≤ 4096 → allUsable s ≡ false → refuse 10 ≡ checked s a
 refuse-10 s a h e = within s a false h e

@@ -1,7 +1,6 @@
 -- What the doors of equations and medians answer, in the terms of document 01's table of doors: the number of a refusal, or values.
 -- A door is a public entry; it checks what it is given. Definitions only. Assumes nothing.
 use mathlib.Core.List.{List, [], _∷_}
-use mathlib.Core.Bool.{Bool, cond}
 use Prim.Native.Nat.{ℕ}
 use lib.Ieee.{Float}
 use Rattle.math.specs.declared.Answer.{Answer}
@@ -22,10 +21,6 @@ refuse k = record { number = k; values = [] }
 -- an accepted call; no values mean none, which is no refusal
 abbrev pub give : List Float → Said
 give xs = record { number = 0; values = xs }
-
--- the rest where the condition holds, else the refusal k
-abbrev pub orRefuse : Bool → ℕ → Said → Said
-orRefuse ok k rest = cond ok rest (refuse k)
 
 -- what each case of `Answer` says
 abbrev pub said : Answer → Said

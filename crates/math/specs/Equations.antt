@@ -9,7 +9,8 @@ use lib.Ieee.{Float, binary64, add, mul, ofBits}
 use Rattle.ieee.specs.Constants.{1e-9}
 use Rattle.math.specs.Lists.{at}
 use Rattle.math.specs.Elimination.{System, sys, Outcome, forwardOn, backOn}
-use Rattle.math.specs.Answers.{Said, orRefuse, solutionSaid}
+use Rattle.laws.specs.Check.{orRefuse}
+use Rattle.math.specs.Answers.{Said, refuse, solutionSaid}
 use Rattle.math.specs.declared.Found.the-variants.{Nothing, Solved}
 use Rattle.math.specs.declared.Solution.{Solution}
 
@@ -39,8 +40,8 @@ solution n a b = finished n (forwardOn n n 0 (sys a b))
 unfoldable pub solveAnswer : ℕ → List Float → List Float → Said
 unfolding solution
 solveAnswer n a b =
-    orRefuse (leb 1 n && leb n 8) 9
-    (orRefuse (eqb (length a) (n * n) && eqb (length b) n) 9
+    orRefuse (leb 1 n && leb n 8) (refuse 9)
+    (orRefuse (eqb (length a) (n * n) && eqb (length b) n) (refuse 9)
     (solutionSaid (solution n a b)))
 
 -- ---- least squares: samples of n values each, one after the other in basis, and a target for each
@@ -94,6 +95,6 @@ fitted n basis targets =
 unfoldable pub fitAnswer : ℕ → List Float → List Float → Said
 unfolding fitted
 fitAnswer n basis targets =
-    orRefuse (leb 1 n && leb n 8) 9
-    (orRefuse (eqb (length basis) (length targets * n)) 9
+    orRefuse (leb 1 n && leb n 8) (refuse 9)
+    (orRefuse (eqb (length basis) (length targets * n)) (refuse 9)
     (solutionSaid (fitted n basis targets)))

@@ -9,7 +9,8 @@ use lib.ListN.{length}
 use lib.Ieee.{Float, nan, binary32, lt, add, sub, mul, fits, ofBits}
 use Rattle.ieee.specs.Ops.{abs, finite, plain}
 use Rattle.ieee.specs.Constants.{1·4826}
-use Rattle.math.specs.Answers.{Said, orRefuse, give}
+use Rattle.laws.specs.Check.{orRefuse}
+use Rattle.math.specs.Answers.{Said, refuse, give}
 use Rattle.math.specs.declared.Answer.{Answer}
 use Rattle.math.specs.declared.Answer.the-variants.{Number, Refused}
 
@@ -95,7 +96,7 @@ Numbers s = count bad s ≡ 0
 -- 9: over 4,096 values. 10: a NaN, an infinity or -0 among them
 unfoldable pub checked : List Float → Said → Said
 unfolding allUsable
-checked s rest = orRefuse (leb (length s) 4096) 9 (orRefuse (allUsable s) 10 rest)
+checked s rest = orRefuse (leb (length s) 4096) (refuse 9) (orRefuse (allUsable s) (refuse 10) rest)
 
 -- what `median` answers
 unfoldable pub medianAnswer : List Float → Said

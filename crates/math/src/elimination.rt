@@ -3,7 +3,7 @@ ghost use mathlib.Core.Path.{_≡_};
 ghost use Prim.Native.Nat.{_+_, _-_, _*_, _<_, _≤_};
 ghost use lib.ListN.{length};
 ghost use Rattle.math.specs.Lists.{at};
-ghost use Rattle.math.specs.Elimination.{sys, pivot, swapOn, rowLess, clearOn, arranged};
+ghost use Rattle.math.specs.Elimination.{sys, pivot, swapOn, rowLess, clear, clearOn, arranged};
 ghost use Rattle.math.specs.Elimination.{forwardOn, lessOn, backOn};
 
 // The row from column c's diagonal on whose entry in column c is greatest in magnitude.
@@ -55,6 +55,24 @@ fn row_less(a: &mut [f64], r: usize, c: usize, f: f64, k0: usize, n: usize)
     }
 }
 
+// Eliminates column c, whose pivot is d, from row r.
+fn clear_row(a: &mut [f64], b: &mut [f64], n: usize, c: usize, d: f64, r: usize)
+    requires { ⌜ n ≤ 8 ⌝ }
+    requires { ⌜ c < n ⌝ }
+    requires { ⌜ r < n ⌝ }
+    requires { ⌜ n * n ≤ length (now a) ⌝ }
+    requires { ⌜ n ≤ length (now b) ⌝ }
+    ensures { λ _. ⌜ sys (now (a .exit)) (now (b .exit))
+        ≡ clear n c d r (sys (now (a .entry)) (now (b .entry))) ⌝ }
+{
+    let f = a[r * n + c] / d;
+    if f == 0.0 {
+        return;
+    }
+    row_less(a, r * n, c * n, f, c, n);
+    b[r] = b[r] - f * b[c];
+}
+
 // Eliminates column c from the rows below its diagonal.
 fn clear_below(a: &mut [f64], b: &mut [f64], n: usize, c: usize)
     requires { ⌜ n ≤ 8 ⌝ }
@@ -68,13 +86,7 @@ fn clear_below(a: &mut [f64], b: &mut [f64], n: usize, c: usize)
     let d = a[c * n + c];
     let mut r = c + 1;
     while r < n {
-        let f = a[r * n + c] / d;
-        if f == 0.0 {
-            r += 1;
-            continue;
-        }
-        row_less(a, r * n, c * n, f, c, n);
-        b[r] = b[r] - f * b[c];
+        clear_row(a, b, n, c, d, r);
         r += 1;
     }
 }

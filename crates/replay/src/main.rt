@@ -63,4 +63,6 @@ fn main() {
     area(b"fit");
     area(b"ring");
     area(b"outline");
+    area(b"attempt");
+    area(b"listing");
 }

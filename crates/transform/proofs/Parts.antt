@@ -1,8 +1,13 @@
 -- The definitions of the mapping, from what each call gives. Assumes nothing.
 use mathlib.Core.Path.{refl, _≡_, sym, ap, _∙_}
 use mathlib.Core.List.{List, _∷_}
-use mathlib.Core.Bool.{Bool, true, false, cond}
-use lib.Ieee.{Float, binary64, add, sub, div, lt, eq}
+use mathlib.Core.Bool.{_&&_, false≢true, Bool, true, false, cond}
+use Prim.Native.Nat.{ℕ, _+_, _*_, _<_}
+use native.Mathlib.Omega.{arith}
+use lib.IntN.{ℤ, negsuc}
+use lib.Dec.{T, ltb, ltb→lt, lt→ltb}
+use lib.Ieee.Bits.{is-true}
+use lib.Ieee.{nan, inf, fin, up, down, neg, Float, binary64, add, sub, div, lt, eq, ofBits}
 use Rattle.ieee.specs.Narrow.{narrow}
 use Rattle.ieee.specs.Ops.{abs}
 use Rattle.math.specs.Equations.{solution}
@@ -32,15 +37,64 @@ use Rattle.transform.specs.declared.Pixel.{Pixel}
 use Rattle.transform.specs.declared.Place.{Place}
 
 -- ---- the divisor
-guarded-by : (w a : Float) (b : Bool) → a ≡ abs w → lt a 1e-9 ≡ b → cond b 1e-9 w ≡ guarded w
+-- a magnitude is below a bound where the number lies between the bound's two signs
+small-both : (w : Float) (m : ℕ) (e : ℤ) → lt (abs w) (fin false m e) ≡ (lt w (fin false m e) && lt (fin true m e) w)
+unfolding lt abs
+small-both nan m e = refl
+small-both (inf true) m e = refl
+small-both (inf false) m e = refl
+small-both (fin false a d) m e =
+    let A = a * up d * down e in
+    let C = m * up e * down d in
+    above A C (ltb A C) (ltb→lt A C)
+  where
+    above : (A C : ℕ) (b : Bool) → (T b → A < C) → b ≡ (b && ltb 0 (C + A))
+    above A C true h = let l = h tt in sym (is-true (ltb 0 (C + A)) (lt→ltb 0 (C + A) (omega arith)))
+    above A C false h = refl
+small-both (fin true a d) m e =
+    let A = a * up d * down e in
+    let C = m * up e * down d in
+    below A C (ltb A C) (ltb→lt A C)
+  where
+    and-true : (b : Bool) → b ≡ true → true ≡ (b && true)
+    and-true true e = refl
+    and-true false e = absurd (false≢true e)
+
+    and-false : (b : Bool) → false ≡ (b && false)
+    and-false true = refl
+    and-false false = refl
+
+    below : (A C : ℕ) (b : Bool) → (T b → A < C) → b ≡ (ltb 0 (A + C) && b)
+    below A C true h = let l = h tt in and-true (ltb 0 (A + C)) (is-true (ltb 0 (A + C)) (lt→ltb 0 (A + C) (omega arith)))
+    below A C false h = and-false (ltb 0 (A + C))
+
+nano : 1e-9 ≡ fin false 4835703278458517 (negsuc 81)
+unfolding ofBits
+nano = refl
+
+minus-nano : neg 1e-9 ≡ fin true 4835703278458517 (negsuc 81)
+unfolding ofBits neg
+minus-nano = refl
+
+test-is : (w : Float) → lt (abs w) 1e-9 ≡ (lt w 1e-9 && lt (neg 1e-9) w)
+test-is w =
+    ap (lt (abs w)) nano ∙ small-both w 4835703278458517 (negsuc 81)
+    ∙ sym (ap (λ (z : Float). lt w z && lt (neg 1e-9) w) nano
+    ∙ ap (λ (z : Float). lt w (fin false 4835703278458517 (negsuc 81)) && lt z w) minus-nano)
+
+guarded-by : (w : Float) (a b : Bool) → lt w 1e-9 ≡ a → lt (neg 1e-9) w ≡ b → cond (a && b) 1e-9 w ≡ guarded w
 unfolding guarded
-guarded-by w a b e f = sym (ap (λ (z : Float). cond (lt z 1e-9) 1e-9 w) (sym e) ∙ ap (λ (z : Bool). cond z 1e-9 w) f)
+guarded-by w a b p q =
+    sym (ap (λ (t : Bool). cond t 1e-9 w) (test-is w ∙ ap (λ (t : Bool). t && lt (neg 1e-9) w) p ∙ ap (λ (t : Bool). a && t) q))
 
-pub guarded-yes : (w a : Float) → a ≡ abs w → lt a 1e-9 ≡ true → 1e-9 ≡ guarded w
-guarded-yes w a e f = guarded-by w a true e f
+pub guarded-near : (w : Float) → lt w 1e-9 ≡ true → lt (neg 1e-9) w ≡ true → 1e-9 ≡ guarded w
+guarded-near w p q = guarded-by w true true p q
 
-pub guarded-no : (w a : Float) → a ≡ abs w → lt a 1e-9 ≡ false → w ≡ guarded w
-guarded-no w a e f = guarded-by w a false e f
+pub guarded-low : (w : Float) → lt w 1e-9 ≡ true → lt (neg 1e-9) w ≡ false → w ≡ guarded w
+guarded-low w p q = guarded-by w true false p q
+
+pub guarded-high : (w : Float) → lt w 1e-9 ≡ false → w ≡ guarded w
+guarded-high w p = guarded-by w false _ p refl
 
 -- ---- the lens
 abbrev pub place : Float → Float → Place
@@ -67,14 +121,13 @@ unfolding flatPlace
 flat-is t u v w e =
     ap (λ (z : Float). place (div binary64 (plane (t .m0) (t .m1) (t .m2) u v) z) (div binary64 (plane (t .m3) (t .m4) (t .m5) u v) z)) e
 
-pub applied-is : (t : Transform) (u v a b : Float) (p q : Place) (x y : Float) → a ≡ u → b ≡ v → p ≡ flatPlace t a b
+pub applied-is : (t : Transform) (u v : Float) (p q : Place) (x y : Float) → p ≡ flatPlace t u v
     → q ≡ throughLens (t .cx) (t .cy) (t .kappa) p → x ≡ narrow (q .x) → y ≡ narrow (q .y) → record { x = x; y = y } ≡ applied t u v
 unfolding applied
-applied-is t u v a b p q x y ea eb ep eq′ ex ey =
+applied-is t u v p q x y ep eq′ ex ey =
     let pixel : Float → Float → Pixel = λ x y. record { x = x; y = y } in
-    let seen : Place → Place = throughLens (t .cx) (t .cy) (t .kappa) in
     ap (λ (z : Float). pixel z y) ex ∙ ap (pixel (narrow (q .x))) ey
-    ∙ ap rounded (eq′ ∙ ap seen (ep ∙ ap (λ (z : Float). flatPlace t z b) ea ∙ ap (flatPlace t u) eb))
+    ∙ ap rounded (eq′ ∙ ap (throughLens (t .cx) (t .cy) (t .kappa)) ep)
 
 -- ---- the transform
 pub radial-is : (t : Transform) (cx cy k a b c : Float) → a ≡ cx → b ≡ cy → c ≡ k → withRadial t a b c ≡ withRadial t cx cy k

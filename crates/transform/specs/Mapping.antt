@@ -2,7 +2,7 @@
 -- any f32 corners. Definitions only. Assumes nothing.
 use mathlib.Core.List.{List, [], _∷_}
 use mathlib.Core.Bool.{cond}
-use lib.Ieee.{Float, binary64, add, sub, mul, div, neg, lt, eq, ofBits}
+use lib.Ieee.{Float, nan, binary64, add, sub, mul, div, neg, lt, eq, ofBits}
 use Rattle.ieee.specs.Narrow.{narrow}
 use Rattle.ieee.specs.Ops.{abs}
 use Rattle.ieee.specs.Constants.{1e-9}
@@ -136,3 +136,7 @@ rounded p = record { x = narrow (p .x); y = narrow (p .y) }
 unfoldable pub applied : Transform → Float → Float → Pixel
 unfolding flatPlace throughLens narrow
 applied t u v = rounded (throughLens (t .cx) (t .cy) (t .kappa) (flatPlace t u v))
+
+-- no place at all: what a NaN gives
+abbrev pub noPixel : Pixel
+noPixel = record { x = nan; y = nan }

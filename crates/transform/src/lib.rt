@@ -11,16 +11,18 @@ ghost use Rattle.transform.specs.Mapping.{
   bent,
   throughLens,
   applied,
+  noPixel,
 };
 
 // Eight coefficients and three lens numbers, all f64. The pixel of (u, v) is
 // (m0 u + m1 v + m2, m3 u + m4 v + m5) / (m6 u + m7 v + 1), then bent about (cx, cy) by kappa.
+// Those of x and of y stand by turns, so that both are computed at once.
 pub struct Transform {
     pub m0: f64,
-    pub m1: f64,
-    pub m2: f64,
     pub m3: f64,
+    pub m1: f64,
     pub m4: f64,
+    pub m2: f64,
     pub m5: f64,
     pub m6: f64,
     pub m7: f64,
@@ -89,7 +91,12 @@ pub fn from_quad(src: [f32; 8], dst: [f32; 8]) -> Mapped
 fn guard(w: f64) -> f64
     ensures { λ r. ⌜ r ≡ guarded w ⌝ }
 {
-    if ieee::abs64(w) < 1e-9 { 1e-9 } else { w }
+    if w < 1e-9 {
+        if -1e-9 < w {
+            return 1e-9;
+        }
+    }
+    w
 }
 
 // The place of (u, v) without the lens.
@@ -135,6 +142,26 @@ fn lens(cx: f64, cy: f64, k: f64, p: Place) -> Place
     }
 }
 
+// The pixel of (u, v), as wide numbers.
+fn seen(t: Transform, u: f64, v: f64) -> Pixel
+    ensures { λ r. ⌜ r ≡ applied t u v ⌝ }
+{
+    let p = flat(t, u, v);
+    let q = lens(t.cx, t.cy, t.kappa, p);
+    let r = ieee::narrowed2(q.x, q.y);
+    Pixel { x: r.x, y: r.y }
+}
+
+// That of a NaN.
+fn no_pixel() -> Pixel
+    ensures { λ r. ⌜ r ≡ noPixel ⌝ }
+{
+    Pixel {
+        x: 0.0 / 0.0,
+        y: 0.0 / 0.0,
+    }
+}
+
 impl Transform {
     // The same coefficients with a lens about (cx, cy).
     pub fn with_radial(self, cx: f32, cy: f32, kappa: f32) -> Transform
@@ -159,11 +186,12 @@ impl Transform {
     pub fn apply(self, u: f32, v: f32) -> Pixel
         ensures { λ r. ⌜ r ≡ applied self u v ⌝ }
     {
-        let p = flat(self, corners::wide(u), corners::wide(v));
-        let q = lens(self.cx, self.cy, self.kappa, p);
-        Pixel {
-            x: ieee::narrowed(q.x),
-            y: ieee::narrowed(q.y),
+        if u != u {
+            return no_pixel();
         }
+        if v != v {
+            return no_pixel();
+        }
+        seen(self, u as f64, v as f64)
     }
 }

@@ -1,3 +1,4 @@
+-- `ieee::abs64` meets its contract: each way out by a law of `Helpers`. Assumes nothing.
 use mathlib.Core.Path.{sym, subst}
 use lib.Dec.{T}
 use lib.Ieee.{binary64, ofBits, fits}

@@ -1,6 +1,8 @@
+-- `ieee::before32` meets its contract: the tests, in their order, fix every condition of `before`. Assumes nothing.
 use mathlib.Core.Path.{refl, sym, _∙_}
 use mathlib.Core.Bool.{true, false}
-use Rattle.ieee.proofs.Helpers.{before-by, ne-nan, no-nan-of}
+use Rattle.ieee.proofs.Helpers.{before-by, ne-nan}
+use Rattle.ieee.proofs.Tests.{ne-no-nan}
 use Rattle.ieee.proofs.before32.Statement.{statement}
 use Rattle.ieee.proofs.before32.Tie as tie
 
@@ -11,10 +13,10 @@ returns-2 : tie.Need-returns-2
 returns-2 c = sym (before-by _ _ false true _ _ _ _ (ne-nan _ ∙ c .before .if1 .left) (ne-nan _ ∙ c .if2 .taken) refl refl refl refl)
 
 negative-requires : tie.Need-negative-requires
-negative-requires c κs = no-nan-of _ (c .before .before .before .if1 .left)
+negative-requires c κs = ne-no-nan _ (c .before .before .before .if1 .left)
 
 negative-requires-2 : tie.Need-negative-requires-2
-negative-requires-2 c κs = no-nan-of _ (c .before .before .before .before .if2 .left)
+negative-requires-2 c κs = ne-no-nan _ (c .before .before .before .before .if2 .left)
 
 returns-3 : tie.Need-returns-3
 returns-3 c = sym (before-by _ _ false false true _ _ _ (ne-nan _ ∙ c .before .before .if1 .left) (ne-nan _ ∙ c .before .if2 .left)

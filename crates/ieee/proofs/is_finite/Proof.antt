@@ -1,3 +1,4 @@
+-- `ieee::is_finite` meets its contract: below the infinity and above its negative. Assumes nothing.
 use mathlib.Core.Path.{sym}
 use lib.Ieee.{ofBits, div, neg}
 use Rattle.ieee.proofs.Helpers.{finite-by, finite-high}

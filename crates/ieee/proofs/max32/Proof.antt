@@ -1,6 +1,8 @@
+-- `ieee::max32` meets its contract: the tests, in their order, fix every condition of `max`. Assumes nothing.
 use mathlib.Core.Path.{refl, sym, _∙_}
 use mathlib.Core.Bool.{true, false}
-use Rattle.ieee.proofs.Helpers.{max-by, ne-nan, no-nan-of}
+use Rattle.ieee.proofs.Helpers.{max-by, ne-nan}
+use Rattle.ieee.proofs.Tests.{ne-no-nan}
 use Rattle.ieee.proofs.max32.Statement.{statement}
 use Rattle.ieee.proofs.max32.Tie as tie
 
@@ -11,7 +13,7 @@ returns-2 : tie.Need-returns-2
 returns-2 c = sym (max-by _ _ false true _ _ _ (ne-nan _ ∙ c .before .if1 .left) (ne-nan _ ∙ c .if2 .taken) refl refl refl)
 
 negative-requires : tie.Need-negative-requires
-negative-requires c κs = no-nan-of _ (c .before .before .before .if1 .left)
+negative-requires c κs = ne-no-nan _ (c .before .before .before .if1 .left)
 
 returns-3 : tie.Need-returns-3
 returns-3 c = sym (max-by _ _ false false true _ _ (ne-nan _ ∙ c .before .before .if1 .left) (ne-nan _ ∙ c .before .if2 .left)

@@ -1,3 +1,4 @@
+-- `ieee::narrowed` meets its contract: a NaN by its test, else the pattern of `narrow_bits`. Assumes nothing.
 use mathlib.Core.Path.{sym, ap, _∙_, subst}
 use lib.Dec.{T}
 use lib.Ieee.{binary64, fits, div, ofBits}

@@ -1,3 +1,4 @@
+-- `ieee::negative` meets its contract: the sign is the highest bit. Assumes nothing.
 use mathlib.Core.Path.{sym, subst}
 use lib.Dec.{T}
 use lib.Ieee.{binary32, fits}

@@ -1,4 +1,5 @@
--- `fl::root` meets its contract.
+-- `ieee::root` meets its contract: a positive, finite pattern by `root_bits`; the infinity and a zero are their own roots; else a NaN.
+-- Assumes nothing.
 use mathlib.Core.Path.{sym, ap, _∙_, subst}
 use lib.Ieee.{binary32, ofBits, div, fits}
 use lib.Dec.{T}

@@ -1,3 +1,4 @@
+-- `ieee::to_u32` meets its contract: below 0, within, and from 2 ^ 32 on. Assumes nothing.
 use mathlib.Core.Path.{_≡_, sym, _∙_, subst}
 use Prim.Native.Nat.{ℕ, _<_, _^_}
 use lib.Dec.{lit≤}

@@ -1,3 +1,4 @@
+-- `math::least_squares` meets its contract: each check of the door has its case of `fitAnswer`. Assumes nothing.
 use Rattle.math.proofs.Doors.{
   zeros-length,
   take-zeros,

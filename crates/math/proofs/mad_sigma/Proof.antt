@@ -1,3 +1,5 @@
+-- `math::mad_sigma` meets its contract: each check of the door has its case of `madSigmaAnswer`; room for 64 values or for 4,096.
+-- Assumes nothing.
 use mathlib.Core.List.{[], _∷_}
 use Rattle.math.specs.Answers.{give}
 use mathlib.Core.Path.{_≡_, sym, ap, _∙_}

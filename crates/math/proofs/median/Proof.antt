@@ -1,3 +1,5 @@
+-- `math::median` meets its contract: each check of the door has its case of `medianAnswer`; a refusal leaves the list alone.
+-- Assumes nothing.
 use mathlib.Core.List.{[], _∷_}
 use Rattle.math.specs.Answers.{give}
 use Rattle.math.specs.Median.{median}

@@ -1,3 +1,4 @@
+-- `math::solve` meets its contract: each check of the door has its case of `solveAnswer`. Assumes nothing.
 use Rattle.math.proofs.Doors.{solve-low, solve-high, solve-matrix, solve-right, solve-pass, square8}
 use Rattle.math.specs.Answers.{solutionSaid}
 use lib.ListN.{length}

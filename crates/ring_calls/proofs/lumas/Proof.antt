@@ -27,17 +27,20 @@ positions-requires c κs = search needs
 
 array-borrow-prefix-list : tie.Need-array-borrow-prefix-list
 array-borrow-prefix-list c =
-    let i = known-is (c .before .before .before .before .before .before .before .before .args .v) _ _ (c .before .before .before .before .before .new .ensures) (c .before .before .before .version .given .1) in
+    let i = known-is (c .before .before .before .before .before .before .before .before .args .v) _ _
+    (c .before .before .before .before .before .new .ensures) (c .before .before .before .version .given .1) in
     room-for _ _ _ _ refl (c .positions .ensures) (c .before .luma-room .ensures) (i .greatest)
 
 slice-aggregate-ring-lumas : tie.Need-slice-aggregate-ring-lumas
 slice-aggregate-ring-lumas c =
-    let i = known-is (c .before .before .before .before .before .before .before .before .before .args .v) _ _ (c .before .before .before .before .before .before .new .ensures) (c .before .before .before .before .version .given .1) in
+    let i = known-is (c .before .before .before .before .before .before .before .before .before .args .v) _ _
+    (c .before .before .before .before .before .before .new .ensures) (c .before .before .before .before .version .given .1) in
     sym (length-take-le _ _ (room-for _ _ _ _ refl (c .before .positions .ensures) (c .before .before .luma-room .ensures) (i .greatest)))
 
 ring-lumas-requires : tie.Need-ring-lumas-requires
 ring-lumas-requires c κs =
-    let i = known-is (c .before .before .before .before .before .before .before .before .before .args .v) _ _ (c .before .before .before .before .before .before .new .ensures) (c .before .before .before .before .version .given .1) in
+    let i = known-is (c .before .before .before .before .before .before .before .before .before .args .v) _ _
+    (c .before .before .before .before .before .before .new .ensures) (c .before .before .before .before .version .given .1) in
     let p = c .before .positions .ensures in
     let fits = room-for _ _ _ _ refl p (c .before .before .luma-room .ensures) (i .greatest) in
     (c .before .before .before .before .before .before .before .before .before .pre, (i, length-take-le _ _ fits ∙ p))

@@ -1,3 +1,4 @@
+-- `transform::bend` meets its contract: the definition itself. Assumes nothing.
 use Rattle.transform.specs.Mapping.{bent}
 use mathlib.Core.Path.{refl}
 use Rattle.transform.proofs.bend.Statement.{statement}

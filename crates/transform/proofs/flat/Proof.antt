@@ -1,3 +1,4 @@
+-- `transform::flat` meets its contract: the divisor is guarded. Assumes nothing.
 use Rattle.transform.proofs.Parts.{flat-is}
 use borrow.Author.Needs.{needs}
 use Rattle.transform.proofs.flat.Statement.{statement}

@@ -1,3 +1,4 @@
+-- `transform::from_quad` meets its contract: the equations, their solution, and its three cases. Assumes nothing.
 use Rattle.transform.proofs.Parts.{quad-is}
 use Rattle.transform.specs.declared.Mapped.the-variants.{Some}
 use Rattle.math.specs.declared.Found.the-variants.{Refused, Nothing, Solved}

@@ -1,3 +1,4 @@
+-- `transform::lens` meets its contract: no lens, or four rounds. Assumes nothing.
 use Rattle.transform.proofs.Parts.{lens-none, lens-some}
 use mathlib.Core.Path.{refl}
 use borrow.Author.Needs.{needs}

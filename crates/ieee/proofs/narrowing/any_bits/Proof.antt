@@ -1,9 +1,10 @@
+-- `ieee::narrowing::any_bits` meets its contract: digits, place and what is kept, put together by `assembled`. Assumes nothing.
 use mathlib.Core.Path.{_≡_}
 use Prim.Native.Nat.{_≤_, _^_}
 use native.Mathlib.Omega.{arith}
 use lib.Ieee.Nearest.{closest}
 use Rattle.ieee.specs.Patterns.{mant64, dropped, cut64}
-use Rattle.ieee.proofs.Narrows.{assembled}
+use Rattle.ieee.proofs.NarrowSteps.{assembled}
 use borrow.Author.Needs.{needs}
 use Rattle.ieee.proofs.narrowing.any_bits.Statement.{statement}
 use Rattle.ieee.proofs.narrowing.any_bits.Tie as tie

@@ -1,8 +1,9 @@
+-- `ieee::narrowing::kept` meets its contract: a shift is a power of two; past 60 places nothing is left. Assumes nothing.
 use mathlib.Core.Path.{sym, ap, _∙_, subst}
 use Prim.Native.Nat.{ℕ, _<_}
 use lib.Pow.{pow-pos}
 use lib.Ieee.Nearest.{closest}
-use Rattle.ieee.proofs.Narrows.{closest-none, shl-is}
+use Rattle.ieee.proofs.NarrowSteps.{closest-none, shl-is}
 use borrow.Author.Needs.{needs}
 use Rattle.ieee.proofs.narrowing.kept.Statement.{statement}
 use Rattle.ieee.proofs.narrowing.kept.Tie as tie

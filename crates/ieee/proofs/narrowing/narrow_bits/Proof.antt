@@ -1,4 +1,5 @@
-use Rattle.ieee.proofs.Narrows.{pattern-is}
+-- `ieee::narrowing::narrow_bits` meets its contract: the sign and `narrowBits` of the rest, by `pattern-is`. Assumes nothing.
+use Rattle.ieee.proofs.NarrowSteps.{pattern-is}
 use borrow.Author.Needs.{needs}
 use Rattle.ieee.proofs.narrowing.narrow_bits.Statement.{statement}
 use Rattle.ieee.proofs.narrowing.narrow_bits.Tie as tie

@@ -1,6 +1,7 @@
+-- `ieee::narrowing::nearest_div` meets its contract: by the remainder against half of the divisor. Assumes nothing.
 use native.Mathlib.Omega.{arith}
 use native.Mathlib.Nat.{mod-le, div-le-self, le-antisymm}
-use Rattle.ieee.proofs.Narrows.{closest-below, closest-above, closest-tie}
+use Rattle.ieee.proofs.NarrowSteps.{closest-below, closest-above, closest-tie}
 use borrow.Author.Needs.{needs}
 use Rattle.ieee.proofs.narrowing.nearest_div.Statement.{statement}
 use Rattle.ieee.proofs.narrowing.nearest_div.Tie as tie

@@ -1,4 +1,5 @@
-use Rattle.ieee.proofs.Narrows.{normal-sum}
+-- `ieee::narrowing::normal_bits` meets its contract: the sum is `normal-sum`, capped. Assumes nothing.
+use Rattle.ieee.proofs.NarrowSteps.{normal-sum}
 use native.Mathlib.Omega.{arith}
 use borrow.Author.Needs.{needs}
 use Rattle.ieee.proofs.narrowing.normal_bits.Statement.{statement}

@@ -1,4 +1,5 @@
--- `fl::near_root` meets its contract, by bisection: the root lies from r up to, but not at, r + step.
+-- `ieee::square_root::near_root` meets its contract: bisection.
+-- Invariant: the root lies from r up to, but not at, r + step, and step is at least 1. Measure: step. Assumes nothing.
 use Prim.Native.Nat.{ℕ, _+_, _-_, _*_, _/_, _≤_, _<_}
 use mathlib.Core.Path.{_≡_, sym, ap, _∙_, subst}
 use mathlib.Core.Bool.{Bool, cond}

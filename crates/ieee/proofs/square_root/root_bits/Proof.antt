@@ -1,4 +1,5 @@
--- `fl::root_bits` meets its contract. The loop's invariant: n * 4 ^ k is what the root is taken of, in smallest values. The measure is k.
+-- `ieee::square_root::root_bits` meets its contract: the digits are scaled until their root has 24.
+-- Invariant: n * 4 ^ k is the square of the root, in smallest values, and n is below 2 ^ 48. Measure: k. Assumes nothing.
 use Prim.Native.Nat.{ℕ, _+_, _-_, _*_, _%_, _^_, _≤_, _<_}
 use mathlib.Core.Path.{_≡_, sym, _∙_, subst}
 use native.Mathlib.Omega.{arith}

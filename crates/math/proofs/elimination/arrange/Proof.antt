@@ -1,3 +1,4 @@
+-- `math::elimination::arrange` meets its contract: the same row is left, another one exchanged. Assumes nothing.
 use Prim.Native.Nat.{ℕ, _≤_, _<_, _+_, _*_}
 use native.Mathlib.Omega.{arith}
 use lib.ListN.{length, length-set}

@@ -1,3 +1,5 @@
+-- `math::elimination::back` meets its contract: from the last row to the first.
+-- Invariant: solving the d rows that are left gives the result, and no length changes. Measure: d. Assumes nothing.
 use mathlib.Core.Path.{_≡_, refl, sym, _∙_}
 use Prim.Native.Nat.{ℕ, _≤_, _<_, _-_, _+_, _*_}
 use native.Mathlib.Omega.{arith}

@@ -1,3 +1,5 @@
+-- `math::elimination::forward` meets its contract: column by column.
+-- Invariant: eliminating the columns that are left gives the result, and no length changes. Measure: columns left. Assumes nothing.
 use mathlib.Core.Path.{_≡_, refl, sym, _∙_}
 use Prim.Native.Nat.{_<_, _-_, _+_, _*_}
 use native.Mathlib.Omega.{arith}

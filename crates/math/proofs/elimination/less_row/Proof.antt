@@ -1,3 +1,5 @@
+-- `math::elimination::less_row` meets its contract.
+-- Invariant: taking the products that are left gives the result. Measure: products left. Assumes nothing.
 use mathlib.Core.Path.{_≡_, sym, _∙_}
 use Prim.Native.Nat.{_-_}
 use borrow.Author.Needs.{needs}

@@ -1,3 +1,5 @@
+-- `math::elimination::pivot_row` meets its contract.
+-- Invariant: the greatest of p and the rows that are left is the pivot, and p is a row. Measure: rows left. Assumes nothing.
 use mathlib.Core.Path.{_≡_, sym, ap, _∙_}
 use mathlib.Core.Bool.{Bool, cond}
 use Prim.Native.Nat.{ℕ, _<_, _-_, _+_, _*_}

@@ -1,3 +1,5 @@
+-- `math::elimination::row_less` meets its contract.
+-- Invariant: doing the places that are left gives the result, and the length stays. Measure: places left. Assumes nothing.
 use mathlib.Core.Path.{_≡_, sym, _∙_}
 use Prim.Native.Nat.{_≤_, _-_}
 use lib.ListN.{length}

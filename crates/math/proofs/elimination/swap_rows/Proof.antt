@@ -1,3 +1,5 @@
+-- `math::elimination::swap_rows` meets its contract.
+-- Invariant: exchanging the places that are left gives the result, and the length stays. Measure: places left. Assumes nothing.
 use mathlib.Core.Path.{_≡_, refl, sym, _∙_}
 use Prim.Native.Nat.{_≤_, _-_}
 use native.Mathlib.Omega.{arith}

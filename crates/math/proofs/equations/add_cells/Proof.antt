@@ -1,3 +1,5 @@
+-- `math::equations::add_cells` meets its contract.
+-- Invariant: adding to the places that are left gives the result, and the length stays. Measure: places left. Assumes nothing.
 use mathlib.Core.Path.{_≡_, refl}
 use Prim.Native.Nat.{_<_, _-_, _+_, _*_}
 use native.Mathlib.Omega.{arith}

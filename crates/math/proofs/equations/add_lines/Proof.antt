@@ -1,3 +1,5 @@
+-- `math::equations::add_lines` meets its contract.
+-- Invariant: adding to the rows that are left gives the result, and no length changes. Measure: rows left. Assumes nothing.
 use mathlib.Core.Path.{_≡_, refl, _∙_}
 use Prim.Native.Nat.{_-_}
 use lib.ListN.{length, length-set}

@@ -1,3 +1,5 @@
+-- `math::equations::add_rows` meets its contract.
+-- Invariant: adding the samples that are left gives the result, and no length changes. Measure: samples left. Assumes nothing.
 use mathlib.Core.Path.{_≡_, refl, _∙_}
 use Prim.Native.Nat.{_<_, _-_}
 use native.Mathlib.Omega.{arith}

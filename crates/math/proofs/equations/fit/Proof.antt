@@ -1,3 +1,4 @@
+-- `math::equations::fit` meets its contract: the sums, the diagonal, the run, one after the other. Assumes nothing.
 use mathlib.Core.Path.{ap, _∙_}
 use Prim.Native.Nat.{_*_}
 use native.Mathlib.Omega.{arith}

@@ -1,3 +1,5 @@
+-- `math::equations::on_copies` meets its contract: room of sixteen places or of sixty-four, of which as many are lent as there are numbers.
+-- Assumes nothing.
 use Rattle.math.proofs.Doors.{square4, square8, zeros-length, zeros-cells, zeros-cells4}
 use mathlib.Core.Path.{sym}
 use borrow.Author.Needs.{needs}

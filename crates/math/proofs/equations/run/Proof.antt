@@ -1,3 +1,5 @@
+-- `math::equations::run` meets its contract: elimination, then back substitution into as many places as there are unknowns.
+-- Assumes nothing.
 use mathlib.Core.Path.{_≡_}
 use mathlib.Core.Bool.{true}
 use native.Mathlib.Omega.{arith}

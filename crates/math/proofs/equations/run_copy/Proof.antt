@@ -1,3 +1,4 @@
+-- `math::equations::run_copy` meets its contract: two copies, and the run on them. Assumes nothing.
 use borrow.Author.Needs.{needs}
 use Rattle.math.proofs.equations.run_copy.Statement.{statement}
 use Rattle.math.proofs.equations.run_copy.Tie as tie

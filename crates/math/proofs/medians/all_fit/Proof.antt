@@ -1,3 +1,5 @@
+-- `math::medians::all_fit` meets its contract.
+-- Invariant: what was seen and what is to come together say whether all are usable. Measure: values left. Assumes nothing.
 use Rattle.math.proofs.Usable.{all-step, all-end, numbers-of}
 use Rattle.math.specs.Median.{allUsable}
 use lib.ListN.{length, drop}

@@ -1,3 +1,5 @@
+-- `math::medians::copy` meets its contract.
+-- Invariant: the first i places are copied, and the length stays. Measure: places left. Assumes nothing.
 use mathlib.Core.Path.{_≡_, refl, _∙_}
 use Prim.Native.Nat.{ℕ, _<_, _-_}
 use lib.ListN.{length, length-set}

@@ -1,3 +1,4 @@
+-- `math::medians::distance` meets its contract: a difference and its magnitude. Assumes nothing.
 use Rattle.math.specs.Median.{away}
 use borrow.Author.Needs.{needs}
 use Rattle.math.proofs.medians.distance.Statement.{statement}

@@ -1,6 +1,8 @@
+-- `math::medians::down` meets its contract.
+-- Invariant: all from e up to the start are above p, and some place before e is not. Measure: e. Assumes nothing.
 use lib.Ieee.{lt}
 use Rattle.math.specs.Lists.{at}
-use Rattle.math.proofs.Selection.{none-between, passed-less, floor-on}
+use Rattle.math.proofs.Partition.{none-between, passed-less, floor-on}
 use Rattle.math.specs.Select.{Floor}
 use Rattle.math.specs.Lists.{at}
 use borrow.Author.Needs.{needs}

@@ -1,3 +1,4 @@
+-- `math::medians::fit` meets its contract: finite by a test, not -0 by the pattern. Assumes nothing.
 use mathlib.Core.Path.{sym, _∙_, subst}
 use lib.Dec.{T}
 use Rattle.math.proofs.Usable.{finite-number, usable-no, usable-bits}

@@ -1,3 +1,4 @@
+-- `math::medians::larger` meets its contract: by the test. Assumes nothing.
 use Rattle.math.proofs.medians.larger.Statement.{statement}
 use Rattle.math.proofs.medians.larger.Tie as tie
 

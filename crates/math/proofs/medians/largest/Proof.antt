@@ -1,3 +1,5 @@
+-- `math::medians::largest` meets its contract.
+-- Invariant: m is the largest of the first i values. Measure: values left. Assumes nothing.
 use mathlib.Core.Path.{_≡_, subst}
 use Prim.Native.Nat.{ℕ, _≤_, _<_, _-_}
 use native.Mathlib.Omega.{arith}

@@ -1,3 +1,4 @@
+-- `math::medians::middle` meets its contract: none, an odd number, an even number. Assumes nothing.
 use Rattle.math.proofs.Numbers.{odd-no-nan, even-no-nan, none-no-nan}
 use Prim.Native.Nat.{_<_, _/_}
 use native.Mathlib.Omega.{arith}

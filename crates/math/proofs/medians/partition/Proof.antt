@@ -1,3 +1,5 @@
+-- `math::medians::partition` meets its contract.
+-- Invariant: the values are the same, nothing before i is above the pivot and nothing from e on below it. Measure: e - i. Assumes nothing.
 use Rattle.math.proofs.Counts.{same-refl, same-trans}
 use mathlib.Core.Path.{_≡_, refl, _∙_}
 use Prim.Native.Nat.{_<_, _-_, _/_}
@@ -5,7 +7,7 @@ use lib.ListN.{length}
 use borrow.Author.Needs.{needs}
 use Rattle.math.specs.Median.{SameValues}
 use Rattle.math.specs.Select.{Parting}
-use Rattle.math.proofs.Selection.{part-begin, part-end}
+use Rattle.math.proofs.Partition.{part-begin, part-end}
 use Rattle.math.proofs.medians.partition.Statement.{statement}
 use Rattle.math.proofs.medians.partition.Tie as tie
 

@@ -1,3 +1,5 @@
+-- `math::medians::spread` meets its contract: two medians, the second of the distances, which can be ordered since the first is no NaN.
+-- Assumes nothing.
 use Rattle.math.specs.Median.{median}
 use mathlib.Core.Path.{_≡_, sym, ap, _∙_, subst}
 use mathlib.Core.Bool.{true}

@@ -1,7 +1,8 @@
+-- `math::medians::turn` meets its contract: both walks, then an exchange where they have not met. Assumes nothing.
 use mathlib.Core.Path.{sym, subst}
 use Prim.Native.Nat.{_-_, _+_}
 use Rattle.math.specs.Select.{Turned}
-use Rattle.math.proofs.Selection.{parting-stop, parting-floor, turn-stop, turn-swap}
+use Rattle.math.proofs.Partition.{parting-stop, parting-floor, turn-stop, turn-swap}
 use borrow.Author.Needs.{needs}
 use Rattle.math.proofs.medians.turn.Statement.{statement}
 use Rattle.math.proofs.medians.turn.Tie as tie

@@ -1,7 +1,9 @@
+-- `math::medians::up` meets its contract.
+-- Invariant: all from the start up to i are below p, and some place from i on is not. Measure: places left. Assumes nothing.
 use lib.ListN.{length}
 use lib.Ieee.{lt}
 use Rattle.math.specs.Lists.{at}
-use Rattle.math.proofs.Selection.{none-between, passed-more, stop-on}
+use Rattle.math.proofs.Partition.{none-between, passed-more, stop-on}
 use Rattle.math.specs.Select.{Stop}
 use Rattle.math.specs.Lists.{at}
 use borrow.Author.Needs.{needs}

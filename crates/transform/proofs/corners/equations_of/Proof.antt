@@ -1,3 +1,4 @@
+-- `transform::corners::equations_of` meets its contract: the definition itself. Assumes nothing.
 use Rattle.transform.specs.Mapping.{matrix}
 use mathlib.Core.Path.{refl}
 use borrow.Author.Needs.{needs}

@@ -1,3 +1,4 @@
+-- `transform::corners::wide8` meets its contract: number by number. Assumes nothing.
 use Rattle.transform.proofs.Parts.{cons-cong}
 use mathlib.Core.Path.{refl}
 use borrow.Author.Needs.{needs}

@@ -1,0 +1,109 @@
+// An attempt as bytes in, its trace as text out: everything of the program `attempt` but reading
+// and writing. The bytes, little-endian: u32 width, height, greatest version, number of pixel
+// bytes, number of list numbers; the pixel bytes; the list's f32 numbers, x and y alternating.
+//
+// The text is `refused N`, or these lines: `hull N`; `quad none` or `quad` and eight f32;
+// `scores K`; K lines `score version agreement corner mirrored`; `fix none` or `fix version
+// agreement` and eleven f64; `fallback` likewise. Floats are the hex of their bits, a NaN `nan`.
+//
+// At most 1,048,576 pixel bytes; a cut or longer record is `refused 13`.
+ghost use mathlib.Core.Path.{_≡_};
+ghost use Prim.Native.Nat.{_≤_};
+ghost use lib.ListN.{length};
+use words::floats;
+
+pub mod digits;
+pub mod lines;
+
+// Room for the longest list, with two numbers that make it too long.
+fn list_room() -> [f32; 32770]
+    ensures { λ r. ⌜ 32770 ≡ length r ⌝ }
+{
+    [0f32; 32770]
+}
+
+// A byte as a number.
+fn wide(b: u8) -> u32
+    ensures { λ r. ⌜ r ≤ 255 ⌝ }
+{
+    b as u32
+}
+
+// The byte at a place; 0 past the end.
+fn byte(s: &[u8], k: usize) -> u32
+    ensures { λ r. ⌜ r ≤ 255 ⌝ }
+{
+    if k < s.len() {
+        return wide(s[k]);
+    }
+    0
+}
+
+// The word of the four bytes from a place on, lowest first.
+fn word(s: &[u8], k: usize) -> u32
+    requires { ⌜ k ≤ 2000000 ⌝ }
+{
+    byte(s, k) + byte(s, k + 1) * 256 + byte(s, k + 2) * 65536 + byte(s, k + 3) * 16777216
+}
+
+// The numbers of a list whose bytes begin at a place.
+fn read(s: &[u8], from: usize, list: &mut [f32])
+    requires { ⌜ (from ≤ 1048596) × (length (now list) ≤ 32770) ⌝ }
+{
+    let mut k: usize = 0;
+    while k < list.len() {
+        list[k] = floats::f32_of(word(s, from + 4 * k));
+        k += 1;
+    }
+}
+
+// A number of the list's numbers, or 32,770 where there are more.
+fn capped(m: usize) -> usize
+    ensures { λ r. ⌜ r ≤ 32770 ⌝ }
+{
+    if 32770 < m {
+        return 32770;
+    }
+    m
+}
+
+// A greatest version as a byte, or 255 where it is more.
+fn version(v: u32) -> u8 {
+    if 255 < v {
+        return 255;
+    }
+    v as u8
+}
+
+// The text of an attempt, at the beginning of `out`, and how many bytes it has.
+pub fn text(record: &[u8], out: &mut [u8]) -> usize {
+    if record.len() < 20 {
+        return lines::refused(13, out);
+    }
+    let n = words::many(word(record, 12));
+    if 1048576 < n {
+        return lines::refused(13, out);
+    }
+    let end = 20 + n;
+    if record.len() < end {
+        return lines::refused(13, out);
+    }
+    let m = capped(words::many(word(record, 16)));
+    if record.len() - end < 4 * m {
+        return lines::refused(13, out);
+    }
+    let mut points = list_room();
+    read(record, end, &mut points[..m]);
+    of_points(record, &record[20..end], &points[..m], out)
+}
+
+fn of_points(record: &[u8], gray: &[u8], points: &[f32], out: &mut [u8]) -> usize {
+    let mut x = list_room();
+    let mut y = list_room();
+    let mut z = list_room();
+    let w = words::many(word(record, 0));
+    let h = words::many(word(record, 4));
+    let most = version(word(record, 8));
+    let r = ring::door::attempt(gray, w, h, points, most, &mut x, &mut y, &mut z);
+    lines::answered(r, out)
+}
