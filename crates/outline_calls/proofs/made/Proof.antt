@@ -65,9 +65,9 @@ slice-aggregate-lent-2 c =
     c .before .before .before .before .before .before .before .unpack .kept .1 .0 in
     let r = c .before .before .before .before .before .before .before .before .before .before .before .before .picture-room .ensures in
     let a =
-        c .before .before .before .before .before .before .before .before .before .before .before .before .before .before .before .args in
+    c .before .before .before .before .before .before .before .before .before .before .before .before .before .before .before .args in
     sym (length-take-le (a .n)
-        (c .before .before .before .before .before .before .before .unpack .last .1 .0) (omega arith))
+    (c .before .before .before .before .before .before .before .unpack .last .1 .0) (omega arith))
 
 array-share-prefix-levels : tie.Need-array-share-prefix-levels
 array-share-prefix-levels c = search needs
@@ -78,10 +78,10 @@ slice-aggregate-lent-3 c =
     ≡ length (c .before .before .before .before .before .before .before .before .before .before .before .before .level-room .result) =
     c .before .before .before .before .unpack2 .kept .1 .0 in
     let r = c .before .before .before .before .before .before .before .before .before .before .before .before .level-room .ensures in
-    let a =
-        c .before .before .before .before .before .before .before .before .before .before .before .before .before .before .before .before .args in
+    let far = c .before .before .before .before .before .before .before .before .before .before in
+    let a = far .before .before .before .before .before .before .args in
     sym (length-take-le (a .g)
-        (c .before .before .before .before .unpack2 .last .1 .0) (omega arith))
+    (c .before .before .before .before .unpack2 .last .1 .0) (omega arith))
 
 mul-lent : tie.Need-mul-lent
 mul-lent c = search needs
@@ -101,17 +101,18 @@ array-borrow-prefix-list c = search needs
 slice-aggregate-lent-4 : tie.Need-slice-aggregate-lent-4
 slice-aggregate-lent-4 c =
     let r = c .before .before .before .before .before .before .before .before .before .before .before .before .before .room .ensures in
-    let a =
-        c .before .before .before .before .before .before .before .before .before .before .before .before .before .before .before .before .before .before .args in
+    let far = c .before .before .before .before .before .before .before .before .before .before in
+    let a = far .before .before .before .before .before .before .before .before .args in
     sym (length-take-le (a .m)
-        (c .before .before .before .before .before .before .before .before .before .before .before .before .before .room .result) (omega arith))
+    (c .before .before .before .before .before .before .before .before .before .before .before .before .before .room .result)
+    (omega arith))
 
 lent-requires : tie.Need-lent-requires
 lent-requires c κs =
-    let a =
-        c .before .before .before .before .before .before .before .before .before .before .before .before .before .before .before .before .before .before .before .args in
+    let far = c .before .before .before .before .before .before .before .before .before .before in
+    let a = far .before .before .before .before .before .before .before .before .before .args in
     let r =
-        c .before .before .before .before .before .before .before .before .before .before .before .before .before .before .room .ensures in
+    c .before .before .before .before .before .before .before .before .before .before .before .before .before .before .room .ensures in
     let p = length-take-le 11 (a .args .now) (omega arith) in
     let q = length-take-le (a .m)
     (c .before .before .before .before .before .before .before .before .before .before .before .before .before .before .room .result)
