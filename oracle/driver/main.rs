@@ -22,7 +22,7 @@ mod transform;
 use std::io::{Read, Write};
 
 const AREAS: &[&calls::Area] =
-    &[&border::AREA, &ieee::AREA, &math::AREA, &transform::AREA, &marks::AREA, &fit::AREA, &ring::AREA, &attempts::AREA, &picture::AREA, &outline::AREA];
+    &[&border::AREA, &ieee::AREA, &math::AREA, &transform::AREA, &marks::AREA, &fit::AREA, &ring::AREA, &attempts::AREA, &picture::AREA, &outline::AREA, &outline::LISTING];
 
 /// The areas of a name, or all of them.
 fn areas(name: &str) -> Vec<&'static calls::Area> {
@@ -41,6 +41,8 @@ fn main() {
     let say = |s: String| std::io::stdout().write_all(s.as_bytes()).unwrap();
     match a.get(1).map(|s| s.as_str()) {
         Some("traylist") => say(list::listing(&stdin())),
+        Some("sample") => std::io::stdout().write_all(&outline::sample()).unwrap(),
+        Some("program") => outline::program(&a[2], num(3, 1), num(4, 1000)),
         Some("dump") => say(list::dump(&stdin())),
         Some("attempt") => say(att::run(&att::decode(&stdin()))),
         Some("attempt-verbose") => say(att::verbose(&att::decode(&stdin()))),
@@ -66,7 +68,7 @@ fn main() {
             which.into_iter().for_each(|x| calls::compare(x, num(3, 1), seconds, num(5, u64::MAX)));
         }
         _ => {
-            eprintln!("usage: oracle traylist|dump|attempt|attempt-verbose|attempts SEED N|poses|attempt-case SEED I|calc|fuzz SEED N|bench|vectors AREA|compare AREA|all SEED SECONDS [MOST]|wide SEED SECONDS [SIDE]");
+    &[];
             std::process::exit(2);
         }
     }

@@ -190,11 +190,32 @@ fn outline(r: &mut Rng) -> Outline {
     o
 }
 
+/// Squares and discs of ink in the corners and in the middle, far enough apart to be five regions: one more than are kept.
+fn squares(r: &mut Rng) -> Pic {
+    let mut p = Pic::new(160, 160, 255);
+    for (right, low) in [(false, false), (true, false), (false, true), (true, true)] {
+        let n = r.range(31, 40);
+        let (x, y) = (if right { 160 - n } else { 0 }, if low { 160 - n } else { 0 });
+        if r.chance(0.3) {
+            p.disc(x as f64 + n as f64 / 2.0, y as f64 + n as f64 / 2.0, n as f64 / 2.0, n as f64 / 2.0, 0);
+        } else {
+            p.rect(x, y, x + n, y + n, 0);
+        }
+    }
+    p.rect(64, 64, 96, 96, 0);
+    p
+}
+
+/// The record of a picture to try the tray list on.
+pub fn sample() -> Vec<u8> {
+    squares(&mut Rng(7)).record()
+}
+
 /// A record, now and then damaged or cut or longer than it says.
 fn record(r: &mut Rng) -> Vec<u8> {
     let most = if r.chance(0.5) { 64 } else { 160 };
     let (w, h) = (r.range(1, most) as u32, r.range(1, most) as u32);
-    let mut b = pic::generate(r.next(), w, h, r).record();
+    let mut b = if r.chance(0.1) { squares(r).record() } else { pic::generate(r.next(), w, h, r).record() };
     match r.below(16) {
         0 => b.truncate(r.below(b.len() as u64 + 1) as usize),
         1 => b.truncate(r.below(11) as usize),
@@ -205,6 +226,28 @@ fn record(r: &mut Rng) -> Vec<u8> {
         _ => {}
     }
     b
+}
+
+/// The program `traylist` at `path` on random records, its output held against the Rust's listing. Exits with 1 at the first difference.
+pub fn program(path: &str, seed: u64, n: u64) {
+    use std::io::Write;
+    use std::process::{Command, Stdio};
+    let (mut refused, mut regions) = (0u64, [0u64; 5]);
+    for i in 0..n {
+        let b = record(&mut Rng(seed.wrapping_mul(0x1_0000_0001).wrapping_add(i)));
+        let mut child = Command::new(path).stdin(Stdio::piped()).stdout(Stdio::piped()).spawn().unwrap();
+        // the program may end without reading what follows the record
+        let _ = child.stdin.take().unwrap().write_all(&b);
+        let got = child.wait_with_output().unwrap().stdout;
+        let want = list::listing(&b);
+        if got != want.as_bytes() {
+            println!("traylist differs at seed {seed} record {i}\n  Rust   {want:?}\n  finder {:?}", String::from_utf8_lossy(&got));
+            std::process::exit(1);
+        }
+        refused += want.starts_with("refused") as u64;
+        regions[want.matches("region ").count()] += 1;
+    }
+    println!("traylist {n} records from seed {seed}, {refused} refused, listings with 0 to 4 kept regions {regions:?}: 0 different");
 }
 
 fn random(r: &mut Rng) -> Call {
@@ -328,6 +371,9 @@ fn stored_listings() -> Vec<Call> {
     for k in 0..150 {
         let (w, h) = (r.range(20, 96) as u32, r.range(20, 96) as u32);
         o.push(listing_call(&pic::generate(k, w, h, &mut r).record()));
+    }
+    for _ in 0..12 {
+        o.push(listing_call(&squares(&mut r).record()));
     }
     o
 }

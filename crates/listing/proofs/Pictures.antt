@@ -1,6 +1,7 @@
 -- The doors on a picture with sides up to 160. Cells: cells-few. The picture door: picture-passes, mapped. Regions: kept-four, listed,
 -- tray-region. The
--- outline door on a kept region: points-below, points-few, region-lines-short, never-refused, points-many, points-part, part-outlined,
+-- outline door on a kept region: points-below, points-few, region-lines-short, never-refused, points-many, points-room, points-part,
+-- part-outlined,
 -- region-stored.
 -- Assumes nothing.
 use mathlib.Core.Path.{_≡_, refl, sym, ap, ap₂, _∙_, subst}
@@ -210,6 +211,9 @@ module _ (s : List ℕ) (w h : ℕ) (t : TrayPicture s w h) where
         pub points-many : (n : ℕ) → answer ≡ Points n → n ≡ length points
         unfolding countOf
         points-many n z = sym (ap countOf z) ∙ ap countOf answer-is
+
+        pub points-room : (n : ℕ) → answer ≡ Points n → 2 * n ≤ 1280
+        points-room n z = omega (arith, points-few, points-many n z)
 
         -- the list holds them
         module _ (old last : List Float) (f : last ≡ listAfter number listed-points old) (n : ℕ) (z : answer ≡ Points n) where

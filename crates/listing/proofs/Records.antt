@@ -1,4 +1,5 @@
--- Laws of the record. Its checks one by one: side-in, side-of, refuse-short to accept; small-area, area-small. What an accepted record is:
+-- Laws of the record. Its checks one by one: side-in, side-of, refuse-short to accept; small-area, area-small. What an accepted record
+-- is:
 -- Accepted with accepted; its pixels, pixels-are; its sides and its picture, wide-is, high-is, long-is, tray-picture. Assumes nothing.
 use mathlib.Core.Path.{_≡_, refl, sym, ap, ap₂, _∙_, subst}
 use mathlib.Core.Bool.{Bool, true, false}

@@ -43,7 +43,8 @@ fn region_lines(
     requires { ⌜ TrayRegion w h r ⌝ }
     requires { ⌜ at + 84 ≤ length (now out) ⌝ }
     ensures { λ e. ⌜
-        Stored at (regionLines (plane w (now (s .entry))) w h r) (now (out .entry)) (now (out .exit)) e ⌝ }
+        Stored at (regionLines (plane w (now (s .entry))) w h r) (now (out .entry))
+        (now (out .exit)) e ⌝ }
 {
     let mut points = [0f32; 1280];
     let x0 = r.x0 as usize;
@@ -111,7 +112,8 @@ pub fn picture_text(s: &[u8], w: usize, h: usize, out: &mut [u8]) -> usize
     requires { ⌜ TrayPicture (now s) w h ⌝ }
     requires { ⌜ 352 ≤ length (now out) ⌝ }
     ensures { λ r. ⌜
-        Stored 0 (pictureText (plane w (now (s .entry))) w h) (now (out .entry)) (now (out .exit)) r ⌝ }
+        Stored 0 (pictureText (plane w (now (s .entry))) w h) (now (out .entry))
+        (now (out .exit)) r ⌝ }
 {
     let mut levels = [0u8; 100];
     let mut labels = [0u32; 400];

@@ -18,7 +18,8 @@ pub fn line(out: &mut [u8], at: usize, word: &[u8], ns: &[u32]) -> usize
     requires { ⌜ Short (now ns) ⌝ }
     requires { ⌜ at + (length (now word) + (4 * length (now ns) + 1)) ≤ length (now out) ⌝ }
     ensures { λ r. ⌜
-        Stored at (lineOf (now (word .entry)) (now (ns .entry))) (now (out .entry)) (now (out .exit)) r ⌝ }
+        Stored at (lineOf (now (word .entry)) (now (ns .entry))) (now (out .entry))
+        (now (out .exit)) r ⌝ }
 {
     let a = put_word(out, at, word);
     let b = put_numbers(out, a, ns);
@@ -61,7 +62,8 @@ pub fn quad_line(p: &[f32], out: &mut [u8], at: usize) -> usize
     requires { ⌜ Near (now p) ⌝ }
     requires { ⌜ at + 37 ≤ length (now out) ⌝ }
     ensures { λ r. ⌜
-        Stored at (cornersLine (quadFloats (now (p .entry)))) (now (out .entry)) (now (out .exit)) r ⌝ }
+        Stored at (cornersLine (quadFloats (now (p .entry)))) (now (out .entry))
+        (now (out .exit)) r ⌝ }
 {
     let Corners::Found(q) = hull::quad(p) else {
         return line(out, at, b"quad none", &[]);

@@ -3,16 +3,20 @@
 --     total-first, total-turn, total-done    the sum, one number further
 --     between-low, between-high, between-both  the threshold between two sides, in the three cases of the code
 --     round-is, split-is                     a round, and four from the mean
+--     no-nan, one-pattern, stays             equal numbers are no NaN; of one pattern they are one; a round that changes nothing
 -- Assumes nothing.
 use mathlib.Core.Path.{_≡_, refl, sym, ap, _∙_}
-use mathlib.Core.Bool.{true, false}
+use mathlib.Core.Bool.{true, false, not}
 use mathlib.Core.List.{List}
 use Prim.Native.Nat.{ℕ, suc, _+_, _-_, _≤_}
 use native.Mathlib.Omega.{arith}
 use native.Mathlib.Numerals.{add-one}
 use lib.IntN.{pos}
-use lib.Ieee.{Float, nan, binary32, add, div, eq, ofInt}
+use lib.Dec.{T}
+use lib.Ieee.{Float, nan, inf, fin, binary32, add, div, eq, ofInt, ofBits, toBits, fits, isNan}
+use lib.Ieee.Bits.{ofBits-toBits}
 use lib.ListN.{length, getD}
+use Rattle.laws.proofs.Bools.{clash}
 use Rattle.marks.specs.declared.split.Sides.{Sides}
 use Rattle.marks.specs.Split.{0·0, 2·0, totalTo, mean, putSide, noSides, sidesTo, between, splitRound, rounds, split}
 
@@ -70,3 +74,20 @@ split-is w total m a b c d n en et em ea eb ec ed =
     em ∙ ap (λ (x : Float). div binary32 x (ofInt binary32 (pos n))) et
     ∙ ap (λ (k : ℕ). div binary32 (totalTo w (length w - 1)) (ofInt binary32 (pos k))) en in
     ed ∙ ap (splitRound w) (ec ∙ ap (splitRound w) (eb ∙ ap (splitRound w) (ea ∙ ap (splitRound w) e)))
+
+-- ---- a round that changes nothing
+pub no-nan : (a b : Float) → eq a b ≡ true → T (not (isNan a)) × T (not (isNan b))
+unfolding eq isNan
+no-nan nan b e = absurd (clash e refl)
+no-nan (inf s) nan e = absurd (clash e refl)
+no-nan (inf s) (inf t) e = (tt, tt)
+no-nan (inf s) (fin t n d) e = (tt, tt)
+no-nan (fin s m d) nan e = absurd (clash e refl)
+no-nan (fin s m d) (inf t) e = (tt, tt)
+no-nan (fin s m d) (fin t n g) e = (tt, tt)
+
+pub one-pattern : (a b : Float) → T (fits binary32 a) → T (fits binary32 b) → toBits binary32 a ≡ toBits binary32 b → a ≡ b
+one-pattern a b f g e = sym (ofBits-toBits binary32 a f) ∙ ap (ofBits binary32) e ∙ ofBits-toBits binary32 b g
+
+pub stays : (w : List Float) (t a : Float) → a ≡ splitRound w t → a ≡ t → a ≡ splitRound w a
+stays w t a e same = e ∙ ap (splitRound w) (sym same)

@@ -1,5 +1,6 @@
 // The split of one window of lumas into dark and light: two means, four rounds.
 ghost use mathlib.Core.Path.{_≡_};
+ghost use mathlib.Core.Bool.{true};
 ghost use Prim.Native.Nat.{_<_, _≤_, _-_};
 ghost use lib.ListN.{length};
 ghost use Rattle.marks.specs.Split.{totalTo, putSide, sidesTo, between, splitRound, split};
@@ -88,12 +89,38 @@ fn total(w: &[f32]) -> f32
     sum
 }
 
-// The split of a window: four rounds from its mean.
+// Whether two numbers are one and the same; not of a NaN, and not of the two zeros.
+fn same(a: f32, b: f32) -> bool
+    ensures { λ r. ⌜ (r ≡ true → a ≡ b) ⌝ }
+{
+    if a == b {
+        if f32::to_bits(a) == f32::to_bits(b) {
+            return true;
+        }
+        return false;
+    }
+    false
+}
+
+// The split of a window: four rounds from its mean. A round that leaves the threshold as it is ends
+// them, since those after it would too.
 pub fn split_of(w: &[f32]) -> f32
     requires { ⌜ 0 < length (now w) ⌝ }
     requires { ⌜ length (now w) ≤ 33 ⌝ }
     ensures { λ r. ⌜ r ≡ split (now (w .entry)) ⌝ }
 {
     let m = total(w) / (w.len() as u16 as f32);
-    split_round(w, split_round(w, split_round(w, split_round(w, m))))
+    let a = split_round(w, m);
+    if same(a, m) {
+        return a;
+    }
+    let b = split_round(w, a);
+    if same(b, a) {
+        return b;
+    }
+    let c = split_round(w, b);
+    if same(c, b) {
+        return c;
+    }
+    split_round(w, c)
 }

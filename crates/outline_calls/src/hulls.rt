@@ -2,10 +2,9 @@
 ghost use mathlib.Core.Path.{_≡_};
 ghost use Prim.Native.Nat.{_≤_};
 ghost use lib.ListN.{length};
-use call_words::floats;
-use call_words::words;
 use hull::points::Corners;
 use hull::points::Quad;
+use words::floats;
 
 // Room for the longest list of numbers.
 pub fn room() -> [f32; 2048]
@@ -31,6 +30,17 @@ pub fn lend(list: &mut [f32])
     }
 }
 
+// Some f32 numbers as words, from a place on.
+fn put_floats(from: &[f32], out: &mut [u32], at: usize)
+    requires { ⌜ (length (now from) ≤ 65536) × (at ≤ 65536) ⌝ }
+{
+    let mut k: usize = 0;
+    while k < from.len() {
+        packed::put(out, at + k, floats::bits32(from[k]));
+        k += 1;
+    }
+}
+
 // 0 and the numbers of a lent list.
 pub fn listed(list: &[f32], out: &mut [u32]) -> usize
     requires { ⌜ length (now list) ≤ 2048 ⌝ }
@@ -39,8 +49,8 @@ pub fn listed(list: &[f32], out: &mut [u32]) -> usize
     if out.len() < n {
         return 0;
     }
-    words::put(out, 0, 0);
-    floats::put32(list, out, 1);
+    packed::put(out, 0, 0);
+    put_floats(list, out, 1);
     n
 }
 
@@ -52,9 +62,9 @@ pub fn told(n: usize, list: &[f32], out: &mut [u32]) -> usize
     if out.len() < m {
         return 0;
     }
-    words::put(out, 0, 0);
-    words::put(out, 1, (n % 4294967296) as u32);
-    floats::put32(list, out, 2);
+    packed::put(out, 0, 0);
+    packed::put(out, 1, (n % 4294967296) as u32);
+    put_floats(list, out, 2);
     m
 }
 
@@ -98,9 +108,9 @@ fn put_quad(q: Quad, out: &mut [u32]) -> usize {
         return 0;
     }
     let corners = [a.x, a.y, b.x, b.y, c.x, c.y, d.x, d.y];
-    words::put(out, 0, 0);
-    words::put(out, 1, 1);
-    floats::put32(&corners, out, 2);
+    packed::put(out, 0, 0);
+    packed::put(out, 1, 1);
+    put_floats(&corners, out, 2);
     10
 }
 

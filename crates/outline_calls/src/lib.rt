@@ -1,21 +1,20 @@
-// Calls of the outline door, hull and quad by number, words in and words out, as crate `calls` has
-// them.
+// Calls of the outline door, hull, quad and listing by number, words in and words out, as crate
+// `calls` has them.
 //     600 outline want, w, h, x0, y0, x1, y1, n bytes, g levels, l labels, m numbers, then these
 //                          0, how many points, the m numbers of the lent list; 1, 2, 3, 5
 //     601 the same         0, the m numbers of the lent list, refused or not
 //     602 hull m, numbers  0, how many vertices, the m numbers of the lent list; 3
 //     603 quad numbers     0, 1, eight numbers; 0, 0 for none
-// At most 25,600 bytes of a picture, 128 levels, 512 labels, 2,048 numbers. Before the call place k
-// of a lent list holds k + 0.25.
+//     604 listing n, bytes 0, how many bytes, these four to a word
+// At most 25,600 bytes of a picture and 25,640 of a record, 128 levels, 512 labels, 2,048 numbers.
+// Before the call place k of a lent list holds k + 0.25.
 ghost use mathlib.Core.Path.{_≡_};
 ghost use Prim.Native.Nat.{_≤_};
 ghost use lib.ListN.{length};
-use call_words::bytes;
-use call_words::floats;
-use call_words::words;
 use outline::Answer;
 
 pub mod hulls;
+pub mod listings;
 
 // Room for the largest picture.
 fn picture_room() -> [u8; 25600]
@@ -38,7 +37,10 @@ pub fn answer(kind: u32, args: &[u32], out: &mut [u32]) -> usize {
     if kind == 603 {
         return hulls::quad_call(args, out);
     }
-    if 603 < kind {
+    if kind == 604 {
+        return listings::listing_call(args, out);
+    }
+    if 604 < kind {
         return 0;
     }
     outline_call(kind, args, out)
@@ -100,8 +102,8 @@ fn made(
     let mut s = picture_room();
     let mut levels = level_room();
     let mut list = hulls::room();
-    bytes::unpack(&args[11..], &mut s);
-    bytes::unpack(&args[a..], &mut levels);
+    packed::unpack(&args[11..], &mut s);
+    packed::unpack(&args[a..], &mut levels);
     lent(
         kind,
         &args[..11],
@@ -133,8 +135,8 @@ fn outline_call(kind: u32, args: &[u32], out: &mut [u32]) -> usize {
     if 2048 < m {
         return 0;
     }
-    let a = 11 + bytes::words_of(n);
-    let b = a + bytes::words_of(g);
+    let a = 11 + packed::words_of(n);
+    let b = a + packed::words_of(g);
     let e = b + l;
     if args.len() < e {
         return 0;

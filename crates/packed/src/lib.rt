@@ -1,5 +1,6 @@
 // Bytes in words, four to a word, lowest first, as calls by number have them; and room for many
 // bytes.
+ghost use Prim.Native.Nat.{_≤_};
 ghost use Rattle.packed.specs.Rooms.{HasPlaces};
 
 // Room for 1,048,576 bytes.
@@ -44,5 +45,51 @@ pub fn unpack(words: &[u32], bytes: &mut [u8]) {
 pub fn put(out: &mut [u32], k: usize, word: u32) {
     if k < out.len() {
         out[k] = word;
+    }
+}
+
+// How many words hold n bytes.
+pub fn words_of(n: usize) -> usize
+    requires { ⌜ n ≤ 65536 ⌝ }
+    ensures { λ r. ⌜ r ≤ 16384 ⌝ }
+{
+    (n + 3) / 4
+}
+
+// A byte as a number.
+fn wide(b: u8) -> u32
+    ensures { λ r. ⌜ r ≤ 255 ⌝ }
+{
+    b as u32
+}
+
+// The byte at a place as a number; 0 past the end.
+fn byte_at(bytes: &[u8], k: usize) -> u32
+    ensures { λ r. ⌜ r ≤ 255 ⌝ }
+{
+    if k < bytes.len() {
+        return wide(bytes[k]);
+    }
+    0
+}
+
+// The word of four bytes.
+fn word_of(bytes: &[u8], j: usize) -> u32
+    requires { ⌜ j ≤ 16384 ⌝ }
+{
+    byte_at(bytes, 4 * j)
+        + byte_at(bytes, 4 * j + 1) * 256
+        + byte_at(bytes, 4 * j + 2) * 65536
+        + byte_at(bytes, 4 * j + 3) * 16777216
+}
+
+// n words of the bytes of a list, from a place on.
+pub fn put_bytes(bytes: &[u8], out: &mut [u32], at: usize, n: usize)
+    requires { ⌜ (n ≤ 16384) × (at ≤ 65536) ⌝ }
+{
+    let mut j: usize = 0;
+    while j < n {
+        put(out, at + j, word_of(bytes, j));
+        j += 1;
     }
 }

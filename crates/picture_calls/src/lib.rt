@@ -11,12 +11,12 @@ ghost use lib.ListN.{length};
 use crate::lists::lend_bytes;
 use crate::lists::lend_words;
 use crate::lists::put_words;
-use call_words::bytes::put_bytes;
-use call_words::bytes::unpack;
-use call_words::words::many;
-use call_words::words::put;
+use packed::put;
+use packed::put_bytes;
+use packed::unpack;
 use regions::answer::Kept;
 use regions::answer::Region;
+use words::many;
 
 pub mod lists;
 

@@ -2,7 +2,7 @@
 ghost use mathlib.Core.Path.{_≡_};
 ghost use Prim.Native.Nat.{_≤_};
 ghost use lib.ListN.{length};
-use call_words::words::put;
+use packed::put;
 
 // What a place of a lent list holds before the call.
 fn lent_word(k: usize) -> u32 {

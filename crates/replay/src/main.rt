@@ -64,4 +64,5 @@ fn main() {
     area(b"ring");
     area(b"outline");
     area(b"attempt");
+    area(b"listing");
 }

@@ -65,7 +65,8 @@ mul-picture-text c =
     omega (
       arith,
       small-area (c .before .pair-at .result) (c .pair-at2 .result) (wide-is s k (c .before .pair-at .result) (c .pair-at2
-          .result) (c .before .pair-at .ensures .0) (c .pair-at2 .ensures .0)) (high-is s k (c .before .pair-at .result) (c .pair-at2 .result)
+          .result) (c .before .pair-at .ensures .0) (c .pair-at2 .ensures .0)) (high-is s k (c .before .pair-at .result) (c .pair-at2
+          .result)
           (c .before .pair-at .ensures .0) (c .pair-at2 .ensures .0)),
     )
 
@@ -77,7 +78,8 @@ add-picture-text c =
     omega (
       arith,
       small-area (c .before .pair-at .result) (c .pair-at2 .result) (wide-is s k (c .before .pair-at .result) (c .pair-at2
-          .result) (c .before .pair-at .ensures .0) (c .pair-at2 .ensures .0)) (high-is s k (c .before .pair-at .result) (c .pair-at2 .result)
+          .result) (c .before .pair-at .ensures .0) (c .pair-at2 .ensures .0)) (high-is s k (c .before .pair-at .result) (c .pair-at2
+          .result)
           (c .before .pair-at .ensures .0) (c .pair-at2 .ensures .0)),
     )
 

@@ -31,7 +31,8 @@ slice-aggregate-write-all : tie.Need-slice-aggregate-write-all
 slice-aggregate-write-all c =
     let a = c .before .before .before .before .before .args in
     let l = c .before .before .listing in
-    sym (length-take-le (l .result .len) (l .result .bytes) (fits (textOf (take (a .n) (a .bytes .now))) _ _ (l .ensures .0) (l .ensures .1 .0)))
+    sym (length-take-le (l .result .len) (l .result .bytes) (fits (textOf (take (a .n) (a .bytes .now))) _ _ (l .ensures .0) (l .ensures
+    .1 .0)))
 
 write-all-requires : tie.Need-write-all-requires
 write-all-requires c κs = search needs

@@ -83,7 +83,8 @@ quad-line-requires c κs =
     let h = c .before .before .before .before .before .before .before .before .before .convex-hull in
     let m : h .result ≤ 640 = omega (arith, h .ensures .0, hull-few p (many p)) in (
       hull-near p _ (h .last .1 .0) (h .result) (h .ensures .0) (h .ensures .1) (e .pre .0 .near),
-      line-next outlineWord _ 37 (two-short (many p) (h .result) (omega arith) (omega arith)) (omega (arith, e .pre .1)) (c .before .before .before .before .line .ensures),
+      line-next outlineWord _ 37 (two-short (many p) (h .result) (omega arith) (omega arith)) (omega (arith, e .pre .1)) (c .before
+          .before .before .before .line .ensures),
     )
 
 same-length : tie.Need-same-length
@@ -91,9 +92,11 @@ same-length c = search needs
 
 returns : tie.Need-returns
 returns c =
-    let p = now (c .before .before .before .before .before .before .before .before .before .before .before .before .before .before .before .before .args .p) in
+    let p = now (c .before .before .before .before .before .before .before .before .before .before .before .before .before .before
+    .before .before .args .p) in
     let h = c .before .before .before .before .before .before .before .before .before .before .before .before .convex-hull in
-    lines-stored p _ (h .last .1 .0) (h .result) (h .ensures .0) (h .ensures .1) (c .before .before .before .before .before .before .before .line .ensures) (c .before .before .quad-line .ensures)
+    lines-stored p _ (h .last .1 .0) (h .result) (h .ensures .0) (h .ensures .1) (c .before .before .before .before .before .before
+    .before .line .ensures) (c .before .before .quad-line .ensures)
 
 pub outline-lines-spec : {M : Type 1} → statement M
 outline-lines-spec =

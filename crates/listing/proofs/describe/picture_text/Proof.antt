@@ -68,9 +68,11 @@ slice-aggregate-all-regions-2 c = search needs
 
 all-regions-requires : tie.Need-all-regions-requires
 all-regions-requires c κs =
-    let e = c .before .before .before .before .before .before .before .before .before .before .before .before .before .before .before .before .before .before .before .before .before in
+    let e = c .before .before .before .before .before .before .before .before .before .before .before .before .before .before .before
+    .before .before .before .before .before .before in
     let a = e .args in
-    let o = c .before .before .before .before .before .before .before .before .before .before .before .before .before .before .before .picture in
+    let o = c .before .before .before .before .before .before .before .before .before .before .before .before .before .before .before
+    .picture in
     let r = o .result .regions in
     let k = picture-taken (now (a .s)) (a .w) (a .h) (e .pre .0) (o .result) (o .ensures .0) in
     let f = kept-few (now (a .s)) (a .w) (a .h) (e .pre .0) r (k .1) in
@@ -78,9 +80,14 @@ all-regions-requires c κs =
     let y : length (o .last .1 .1 .1 .1 .0) ≡ 400 = o .kept .1 .1 .1 .1 .0 in (
       e .pre .0,
       (
-        mapped (now (a .s)) (a .w) (a .h) (e .pre .0) (o .result .refused) _ _ (o .last .1 .1 .1 .0) (o .last .1 .1 .1 .1 .0) (k .0) (omega arith)
+        mapped (now (a .s)) (a .w) (a .h) (e .pre .0) (o .result .refused) _ _ (o .last .1 .1 .1 .0) (o .last .1 .1 .1 .1 .0) (k .0)
+            (omega arith)
             (omega arith) (o .ensures .1 .0) (o .ensures .1 .1 .0),
-        (k .1, line-next regionsWord _ 336 (two-short (r .all) (r .kept) (f .0) (f .1)) (omega (arith, e .pre .1)) (c .before .before .before .before .before .line .ensures)),
+        (
+          k .1,
+          line-next regionsWord _ 336 (two-short (r .all) (r .kept) (f .0) (f .1)) (omega (arith, e .pre .1)) (c .before .before
+              .before .before .before .line .ensures),
+        ),
       ),
     )
 
@@ -89,13 +96,16 @@ same-length c = search needs
 
 returns : tie.Need-returns
 returns c =
-    let e = c .before .before .before .before .before .before .before .before .before .before .before .before .before .before .before .before .before .before .before .before .before .before .before .before in
+    let e = c .before .before .before .before .before .before .before .before .before .before .before .before .before .before .before
+    .before .before .before .before .before .before .before .before .before in
     let a = e .args in
-    let o = c .before .before .before .before .before .before .before .before .before .before .before .before .before .before .before .before .before .before .picture in
+    let o = c .before .before .before .before .before .before .before .before .before .before .before .before .before .before .before
+    .before .before .before .picture in
     let r = o .result .regions in
     let k = picture-taken (now (a .s)) (a .w) (a .h) (e .pre .0) (o .result) (o .ensures .0) in
     let f = kept-few (now (a .s)) (a .w) (a .h) (e .pre .0) r (k .1) in
-    text-stored (now (a .s)) (a .w) (a .h) (e .pre .0) r (k .1) (c .before .before .before .before .before .before .before .before .line .ensures) (c .before .before .all-regions .ensures)
+    text-stored (now (a .s)) (a .w) (a .h) (e .pre .0) r (k .1) (c .before .before .before .before .before .before .before .before .line
+    .ensures) (c .before .before .all-regions .ensures)
 
 pub picture-text-spec : {M : Type 1} → statement M
 picture-text-spec =

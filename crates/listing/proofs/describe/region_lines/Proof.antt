@@ -1,5 +1,5 @@
+use Rattle.listing.proofs.Pictures.{never-refused, points-room, part-outlined, region-stored}
 -- `listing::describe::region_lines` meets its contract. Assumes nothing.
-use Rattle.listing.proofs.Pictures.{points-few, never-refused, points-many, part-outlined, region-stored}
 use Rattle.listing.proofs.Pieces.{region-short, line-next}
 use Rattle.listing.specs.Text.{regionWord}
 use lib.Seq.{length-take-le}
@@ -53,61 +53,70 @@ same-length c = search needs
 
 returns : tie.Need-returns
 returns c =
-    let e = c .before .before .before .before .before .before .before .before .before .before .before .before .before .before .before .before .before .before .before in
+    let o = c .before .before .before .outline in
+    let e = c .before .before .before .before .before .before .before .before .before .before .before .before .before .before .before
+    .before .before .before .before in
     let a = e .args in
     let t = e .pre .0 in
     let g = e .pre .1 .1 .0 in
-    let o = c .before .before .before .outline in
-    absurd (never-refused (now (a .s)) (a .w) (a .h) t (a .r) g (now (a .levels)) (now (a .labels)) (e .pre .1 .0) 1280 (omega arith) (o .result) (o .ensures .0) _ (c .enum-told .given .1))
+    absurd (never-refused (now (a .s)) (a .w) (a .h) t (a .r) g (now (a .levels)) (now (a .labels)) (e .pre .1 .0) 1280 (omega arith)
+    (o .result) (o .ensures .0) _ (c .enum-told .given .1))
 
 mul-points : tie.Need-mul-points
 mul-points c =
-    let e = c .before .before .before .before .before .before .before .before .before .before .before .before .before .before .before .before .before .before .before .before in
+    let o = c .before .before .before .before .outline in
+    let e = c .before .before .before .before .before .before .before .before .before .before .before .before .before .before .before
+    .before .before .before .before .before in
     let a = e .args in
     let t = e .pre .0 in
     let g = e .pre .1 .1 .0 in
-    let o = c .before .before .before .before .outline in
     let q = c .before .a .given in
-    let few = points-few (now (a .s)) (a .w) (a .h) t (a .r) g in
-    let n = points-many (now (a .s)) (a .w) (a .h) t (a .r) g (now (a .levels)) (now (a .labels)) (e .pre .1 .0) 1280 (omega arith) (o .result) (o .ensures .0) (q .0 .0) (q .1) in
+    let n = points-room (now (a .s)) (a .w) (a .h) t (a .r) g (now (a .levels)) (now (a .labels)) (e .pre .1 .0) 1280 (omega arith)
+    (o .result) (o .ensures .0) (q .0 .0) (q .1) in
     omega arith
 
 array-share-prefix-points : tie.Need-array-share-prefix-points
 array-share-prefix-points c =
-    let e = c .before .before .before .before .before .before .before .before .before .before .before .before .before .before .before .before .before .before .before .before in
+    let o = c .before .before .before .before .outline in
+    let e = c .before .before .before .before .before .before .before .before .before .before .before .before .before .before .before
+    .before .before .before .before .before in
     let a = e .args in
     let t = e .pre .0 in
     let g = e .pre .1 .1 .0 in
-    let o = c .before .before .before .before .outline in
     let q = c .before .a .given in
-    let few = points-few (now (a .s)) (a .w) (a .h) t (a .r) g in
-    let n = points-many (now (a .s)) (a .w) (a .h) t (a .r) g (now (a .levels)) (now (a .labels)) (e .pre .1 .0) 1280 (omega arith) (o .result) (o .ensures .0) (q .0 .0) (q .1) in
+    let n = points-room (now (a .s)) (a .w) (a .h) t (a .r) g (now (a .levels)) (now (a .labels)) (e .pre .1 .0) 1280 (omega arith)
+    (o .result) (o .ensures .0) (q .0 .0) (q .1) in
     let l : length (o .last .1 .1 .1 .1 .1 .1 .1 .1 .1 .1 .0) ≡ 1280 = o .kept .1 .1 .1 .1 .1 .1 .1 .1 .1 .1 .0 in
     omega arith
 
 slice-aggregate-outline-lines : tie.Need-slice-aggregate-outline-lines
 slice-aggregate-outline-lines c =
-    let e = c .before .before .before .before .before .before .before .before .before .before .before .before .before .before .before .before .before .before .before .before .before in
+    let o = c .before .before .before .before .before .outline in
+    let e = c .before .before .before .before .before .before .before .before .before .before .before .before .before .before .before
+    .before .before .before .before .before .before in
     let a = e .args in
     let t = e .pre .0 in
     let g = e .pre .1 .1 .0 in
-    let o = c .before .before .before .before .before .outline in
     let q = c .before .before .a .given in
-    let few = points-few (now (a .s)) (a .w) (a .h) t (a .r) g in
-    let n = points-many (now (a .s)) (a .w) (a .h) t (a .r) g (now (a .levels)) (now (a .labels)) (e .pre .1 .0) 1280 (omega arith) (o .result) (o .ensures .0) (q .0 .0) (q .1) in
+    let n = points-room (now (a .s)) (a .w) (a .h) t (a .r) g (now (a .levels)) (now (a .labels)) (e .pre .1 .0) 1280 (omega arith)
+    (o .result) (o .ensures .0) (q .0 .0) (q .1) in
     let l : length (o .last .1 .1 .1 .1 .1 .1 .1 .1 .1 .1 .0) ≡ 1280 = o .kept .1 .1 .1 .1 .1 .1 .1 .1 .1 .1 .0 in
     sym (length-take-le (2 * q .0 .0) (o .last .1 .1 .1 .1 .1 .1 .1 .1 .1 .1 .0) (omega arith))
 
 outline-lines-requires : tie.Need-outline-lines-requires
 outline-lines-requires c κs =
-    let e = c .before .before .before .before .before .before .before .before .before .before .before .before .before .before .before .before .before .before .before .before .before .before in
+    let o = c .before .before .before .before .before .before .outline in
+    let e = c .before .before .before .before .before .before .before .before .before .before .before .before .before .before .before
+    .before .before .before .before .before .before .before in
     let a = e .args in
     let t = e .pre .0 in
     let g = e .pre .1 .1 .0 in
-    let o = c .before .before .before .before .before .before .outline in
-    let q = c .before .before .before .a .given in (
-      part-outlined (now (a .s)) (a .w) (a .h) t (a .r) g (now (a .levels)) (now (a .labels)) (e .pre .1 .0) 1280 (omega arith) (o .result) (o .ensures .0) _ (o .last .1 .1 .1 .1 .1 .1 .1 .1 .1 .1 .0) (o .ensures .1) (q .0 .0) (q .1),
-      line-next regionWord _ 53 (region-short (a .w) (a .h) (a .r) g (t .wide) (t .high)) (omega (arith, e .pre .1 .1 .1)) (c .before .before .before .before .before .before .before .before .before .before .line .ensures),
+    let q = c .before .before .before .a .given in
+    let short = region-short (a .w) (a .h) (a .r) g (t .wide) (t .high) in
+    let l = c .before .before .before .before .before .before .before .before .before .before .line in (
+      part-outlined (now (a .s)) (a .w) (a .h) t (a .r) g (now (a .levels)) (now (a .labels)) (e .pre .1 .0) 1280 (omega arith)
+          (o .result) (o .ensures .0) _ (o .last .1 .1 .1 .1 .1 .1 .1 .1 .1 .1 .0) (o .ensures .1) (q .0 .0) (q .1),
+      line-next regionWord _ 53 short (omega (arith, e .pre .1 .1 .1)) (l .ensures),
     )
 
 same-length-2 : tie.Need-same-length-2
@@ -115,13 +124,17 @@ same-length-2 c = search needs
 
 returns-2 : tie.Need-returns-2
 returns-2 c =
-    let e = c .before .before .before .before .before .before .before .before .before .before .before .before .before .before .before .before .before .before .before .before .before .before .before .before .before in
+    let o = c .before .before .before .before .before .before .before .before .before .outline in
+    let e = c .before .before .before .before .before .before .before .before .before .before .before .before .before .before .before
+    .before .before .before .before .before .before .before .before .before .before in
     let a = e .args in
     let t = e .pre .0 in
     let g = e .pre .1 .1 .0 in
-    let o = c .before .before .before .before .before .before .before .before .before .outline in
     let q = c .before .before .before .before .before .before .a .given in
-    region-stored (now (a .s)) (a .w) (a .h) t (a .r) g (now (a .levels)) (now (a .labels)) (e .pre .1 .0) 1280 (omega arith) (o .result) (o .ensures .0) _ (o .last .1 .1 .1 .1 .1 .1 .1 .1 .1 .1 .0) (o .ensures .1) (q .0 .0) (q .1) (c .before .before .before .before .before .before .before .before .before .before .before .before .before .line .ensures) (c .before .before .outline-lines .ensures)
+    let l = c .before .before .before .before .before .before .before .before .before .before .before .before .before .line in
+    region-stored (now (a .s)) (a .w) (a .h) t (a .r) g (now (a .levels)) (now (a .labels)) (e .pre .1 .0) 1280 (omega arith)
+    (o .result) (o .ensures .0) _ (o .last .1 .1 .1 .1 .1 .1 .1 .1 .1 .1 .0) (o .ensures .1) (q .0 .0) (q .1) (l .ensures)
+    (c .before .before .outline-lines .ensures)
 
 pub region-lines-spec : {M : Type 1} → statement M
 region-lines-spec =

@@ -1,5 +1,5 @@
-use Rattle.listing.proofs.Records.{refuse-length, refuse-bytes, accept}
-use Rattle.listing.proofs.Records.{side-of, area-small, refuse-short, refuse-kind, refuse-wide, refuse-high}
+use Rattle.listing.proofs.Records.{refuse-bytes, accept}
+use Rattle.listing.proofs.Records.{side-of, area-small, refuse-short, refuse-kind, refuse-wide, refuse-high, refuse-length}
 use mathlib.Core.Path.{_≡_, sym, ap, ap₂, _∙_}
 -- `listing::record::check` meets its contract. Each way out is one line of the chain of checks. Assumes nothing.
 use Rattle.listing.specs.Listing.{isTraySide, pairAt}
@@ -36,26 +36,25 @@ is-side-requires c κs = search needs
 
 returns-3 : tie.Need-returns-3
 returns-3 c =
-    let s = now (c .before .before .before .before .before .before .before .before .args .s) in
+    let d = c .before in
+    let s = now (d .before .before .before .before .before .before .before .args .s) in
     let long : 10 ≤ length s = omega arith in
-    let kind : pairAt s 4 ≡ 1 = sym (c .before .before .before .before .before .pair-at .ensures .0) ∙ c .before .before .before .before .if2 .left in
-    let x = c .before .before .before .pair-at2 .ensures .0 in
-    let y = c .before .before .pair-at3 .ensures .0 in
-    let u = c .before .is-side in
-    refuse-wide s long kind (side-of x (u .ensures) ∙ not-true (u .result) (c .if3 .taken))
+    let kind : pairAt s 4 ≡ 1 = sym (d .before .before .before .before .pair-at .ensures .0) ∙ d .before .before .before .if2 .left in
+    let x = d .before .before .pair-at2 .ensures .0 in
+    refuse-wide s long kind (side-of x (d .is-side .ensures) ∙ not-true (d .is-side .result) (c .if3 .taken))
 
 is-side-requires-2 : tie.Need-is-side-requires-2
 is-side-requires-2 c κs = search needs
 
 returns-4 : tie.Need-returns-4
 returns-4 c =
-    let s = now (c .before .before .before .before .before .before .before .before .before .before .args .s) in
+    let d = c .before .before .before in
+    let s = now (d .before .before .before .before .before .before .before .args .s) in
     let long : 10 ≤ length s = omega arith in
-    let kind : pairAt s 4 ≡ 1 = sym (c .before .before .before .before .before .before .before .pair-at .ensures .0) ∙ c .before .before .before .before .before .before .if2 .left in
-    let x = c .before .before .before .before .before .pair-at2 .ensures .0 in
-    let y = c .before .before .before .before .pair-at3 .ensures .0 in
-    let u = c .before .before .before .is-side in
-    let wide = side-of x (u .ensures) ∙ not-false (u .result) (c .before .before .if3 .left) in
+    let kind : pairAt s 4 ≡ 1 = sym (d .before .before .before .before .pair-at .ensures .0) ∙ d .before .before .before .if2 .left in
+    let x = d .before .before .pair-at2 .ensures .0 in
+    let wide = side-of x (d .is-side .ensures) ∙ not-false (d .is-side .result) (c .before .before .if3 .left) in
+    let y = d .before .pair-at3 .ensures .0 in
     let v = c .before .is-side2 in
     refuse-high s long kind wide (side-of y (v .ensures) ∙ not-true (v .result) (c .if4 .taken))
 
@@ -64,25 +63,37 @@ four-at-requires c κs = search needs
 
 mul-if5 : tie.Need-mul-if5
 mul-if5 c =
-    let u = c .before .before .before .before .is-side in
+    let d = c .before .before .before .before in
     let v = c .before .before .is-side2 in
-    omega (arith, area-small (c .before .before .before .before .before .before .pair-at2 .result) (c .before .before .before .before .before .pair-at3 .result) (u .ensures) (not-false (u .result) (c .before .before .before .if3 .left)) (v .ensures) (not-false (v .result) (c .before .if4 .left)))
+    let wide = not-false (d .is-side .result) (c .before .before .before .if3 .left) in
+    let high = not-false (v .result) (c .before .if4 .left) in
+    omega (
+      arith,
+      area-small (d .before .before .pair-at2 .result) (d .before .pair-at3 .result) (d .is-side .ensures) wide (v .ensures)
+          high,
+    )
 
 add-if5 : tie.Need-add-if5
 add-if5 c =
-    let u = c .before .before .before .before .is-side in
+    let d = c .before .before .before .before in
     let v = c .before .before .is-side2 in
-    omega (arith, area-small (c .before .before .before .before .before .before .pair-at2 .result) (c .before .before .before .before .before .pair-at3 .result) (u .ensures) (not-false (u .result) (c .before .before .before .if3 .left)) (v .ensures) (not-false (v .result) (c .before .if4 .left)))
+    let wide = not-false (d .is-side .result) (c .before .before .before .if3 .left) in
+    let high = not-false (v .result) (c .before .if4 .left) in
+    omega (
+      arith,
+      area-small (d .before .before .pair-at2 .result) (d .before .pair-at3 .result) (d .is-side .ensures) wide (v .ensures)
+          high,
+    )
 
 returns-5 : tie.Need-returns-5
 returns-5 c =
-    let s = now (c .before .before .before .before .before .before .before .before .before .before .before .before .args .s) in
+    let d = c .before .before .before .before .before in
+    let s = now (d .before .before .before .before .before .before .before .args .s) in
     let long : 10 ≤ length s = omega arith in
-    let kind : pairAt s 4 ≡ 1 = sym (c .before .before .before .before .before .before .before .before .before .pair-at .ensures .0) ∙ c .before .before .before .before .before .before .before .before .if2 .left in
-    let x = c .before .before .before .before .before .before .before .pair-at2 .ensures .0 in
-    let y = c .before .before .before .before .before .before .pair-at3 .ensures .0 in
-    let u = c .before .before .before .before .before .is-side in
-    let wide = side-of x (u .ensures) ∙ not-false (u .result) (c .before .before .before .before .if3 .left) in
+    let kind : pairAt s 4 ≡ 1 = sym (d .before .before .before .before .pair-at .ensures .0) ∙ d .before .before .before .if2 .left in
+    let x = d .before .before .pair-at2 .ensures .0 in
+    let wide = side-of x (d .is-side .ensures) ∙ not-false (d .is-side .result) (c .before .before .before .before .if3 .left) in
+    let y = d .before .pair-at3 .ensures .0 in
     let v = c .before .before .before .is-side2 in
     let high = side-of y (v .ensures) ∙ not-false (v .result) (c .before .before .if4 .left) in
     let e = ap₂ (λ (m n : ℕ). m * n) x y in
@@ -93,19 +104,25 @@ mul-if6 c = search needs
 
 add-if6 : tie.Need-add-if6
 add-if6 c =
-    let u = c .before .before .before .before .before .is-side in
+    let d = c .before .before .before .before .before in
     let v = c .before .before .before .is-side2 in
-    omega (arith, area-small (c .before .before .before .before .before .before .before .pair-at2 .result) (c .before .before .before .before .before .before .pair-at3 .result) (u .ensures) (not-false (u .result) (c .before .before .before .before .if3 .left)) (v .ensures) (not-false (v .result) (c .before .before .if4 .left)))
+    let wide = not-false (d .is-side .result) (c .before .before .before .before .if3 .left) in
+    let high = not-false (v .result) (c .before .before .if4 .left) in
+    omega (
+      arith,
+      area-small (d .before .before .pair-at2 .result) (d .before .pair-at3 .result) (d .is-side .ensures) wide (v .ensures)
+          high,
+    )
 
 returns-6 : tie.Need-returns-6
 returns-6 c =
-    let s = now (c .before .before .before .before .before .before .before .before .before .before .before .before .before .args .s) in
+    let d = c .before .before .before .before .before .before in
+    let s = now (d .before .before .before .before .before .before .before .args .s) in
     let long : 10 ≤ length s = omega arith in
-    let kind : pairAt s 4 ≡ 1 = sym (c .before .before .before .before .before .before .before .before .before .before .pair-at .ensures .0) ∙ c .before .before .before .before .before .before .before .before .before .if2 .left in
-    let x = c .before .before .before .before .before .before .before .before .pair-at2 .ensures .0 in
-    let y = c .before .before .before .before .before .before .before .pair-at3 .ensures .0 in
-    let u = c .before .before .before .before .before .before .is-side in
-    let wide = side-of x (u .ensures) ∙ not-false (u .result) (c .before .before .before .before .before .if3 .left) in
+    let kind : pairAt s 4 ≡ 1 = sym (d .before .before .before .before .pair-at .ensures .0) ∙ d .before .before .before .if2 .left in
+    let x = d .before .before .pair-at2 .ensures .0 in
+    let wide = side-of x (d .is-side .ensures) ∙ not-false (d .is-side .result) (c .before .before .before .before .before .if3 .left) in
+    let y = d .before .pair-at3 .ensures .0 in
     let v = c .before .before .before .before .is-side2 in
     let high = side-of y (v .ensures) ∙ not-false (v .result) (c .before .before .before .if4 .left) in
     let e = ap₂ (λ (m n : ℕ). m * n) x y in
@@ -114,13 +131,13 @@ returns-6 c =
 
 returns-7 : tie.Need-returns-7
 returns-7 c =
-    let s = now (c .before .before .before .before .before .before .before .before .before .before .before .before .before .args .s) in
+    let d = c .before .before .before .before .before .before in
+    let s = now (d .before .before .before .before .before .before .before .args .s) in
     let long : 10 ≤ length s = omega arith in
-    let kind : pairAt s 4 ≡ 1 = sym (c .before .before .before .before .before .before .before .before .before .before .pair-at .ensures .0) ∙ c .before .before .before .before .before .before .before .before .before .if2 .left in
-    let x = c .before .before .before .before .before .before .before .before .pair-at2 .ensures .0 in
-    let y = c .before .before .before .before .before .before .before .pair-at3 .ensures .0 in
-    let u = c .before .before .before .before .before .before .is-side in
-    let wide = side-of x (u .ensures) ∙ not-false (u .result) (c .before .before .before .before .before .if3 .left) in
+    let kind : pairAt s 4 ≡ 1 = sym (d .before .before .before .before .pair-at .ensures .0) ∙ d .before .before .before .if2 .left in
+    let x = d .before .before .pair-at2 .ensures .0 in
+    let wide = side-of x (d .is-side .ensures) ∙ not-false (d .is-side .result) (c .before .before .before .before .before .if3 .left) in
+    let y = d .before .pair-at3 .ensures .0 in
     let v = c .before .before .before .before .is-side2 in
     let high = side-of y (v .ensures) ∙ not-false (v .result) (c .before .before .before .if4 .left) in
     let e = ap₂ (λ (m n : ℕ). m * n) x y in

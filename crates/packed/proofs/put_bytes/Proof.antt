@@ -1,12 +1,12 @@
--- `call_words::bytes::put_bytes` meets its contract. The invariant: as many words as before. The measure
+-- `packed::put_bytes` meets its contract. The invariant: as many words as before. The measure
 -- is what is left of the words. Assumes nothing.
 use lib.ListN.{length}
 use native.Mathlib.Omega.{arith}
 use Prim.Native.Nat.{_-_, _≤_}
 use mathlib.Core.Path.{_∙_, _≡_}
 use borrow.Author.Needs.{needs}
-use Rattle.call_words.proofs.bytes.put_bytes.Statement.{statement}
-use Rattle.call_words.proofs.bytes.put_bytes.Tie as tie
+use Rattle.packed.proofs.put_bytes.Statement.{statement}
+use Rattle.packed.proofs.put_bytes.Tie as tie
 
 abbrev Inv-loop : tie.InvT-loop
 Inv-loop bytes out₀ at n j₀ out j = (j ≤ n) × (length out ≡ length out₀)
@@ -20,8 +20,8 @@ loop-holds c = search needs
 add-put : tie.Need-add-put Inv-loop μ-loop
 add-put c = search needs
 
-packed-requires : tie.Need-packed-requires Inv-loop μ-loop
-packed-requires c κs = search needs
+word-of-requires : tie.Need-word-of-requires Inv-loop μ-loop
+word-of-requires c κs = search needs
 
 put-requires : tie.Need-put-requires Inv-loop μ-loop
 put-requires c κs = search needs
@@ -49,7 +49,7 @@ put-bytes-spec =
     μ-loop
     loop-holds
     add-put
-    packed-requires
+    word-of-requires
     put-requires
     add-j
     loop-less

@@ -1,12 +1,12 @@
--- `call_words::floats::put32` meets its contract. The invariant: as many words as before. The measure is
+-- `outline_calls::hulls::put_floats` meets its contract. The invariant: as many words as before. The measure is
 -- what is left of the numbers. Assumes nothing.
 use lib.ListN.{length}
 use native.Mathlib.Omega.{arith}
 use Prim.Native.Nat.{_-_, _≤_}
 use mathlib.Core.Path.{_∙_, _≡_}
 use borrow.Author.Needs.{needs}
-use Rattle.call_words.proofs.floats.put32.Statement.{statement}
-use Rattle.call_words.proofs.floats.put32.Tie as tie
+use Rattle.outline_calls.proofs.hulls.put_floats.Statement.{statement}
+use Rattle.outline_calls.proofs.hulls.put_floats.Tie as tie
 
 abbrev Inv-loop : tie.InvT-loop
 Inv-loop from out₀ at k₀ out k = (k ≤ length from) × (length out ≡ length out₀)
@@ -47,8 +47,8 @@ same-length c = search needs
 returns : tie.Need-returns Inv-loop μ-loop
 returns c = search needs
 
-pub put32-spec : {M : Type 1} → statement M
-put32-spec =
+pub put-floats-spec : {M : Type 1} → statement M
+put-floats-spec =
     tie.close
     (tie.spec
     Inv-loop
