@@ -192,10 +192,10 @@ pub fn some(r: &mut Rng, most: u32) -> (&'static str, Case) {
     };
     match r.below(22) {
         20 => {
-            // every version, two or three pixels a module
+            // every version, three pixels a module, or two, which are too few
             let v = r.range(1, 64) as u8;
             let n = 17 + 4 * v as u32 + 10;
-            let pitch = if n > 200 { 2 } else { r.range(2, 3) as u32 };
+            let pitch = if r.chance(0.8) { 3 } else { 2 };
             let p = draw_ring(v, pitch, r.below(4) as u32, r.chance(0.5), n * pitch, n * pitch);
             let q = outline(&p, true);
             let m = maxv(r, v);
@@ -382,6 +382,28 @@ pub fn run(seed: u64, count: u64) {
     }
     println!("{count} attempts from seed {seed}, 0 different; {} versions fixed", versions.len());
     met.iter().for_each(|(k, n)| println!("{n:>8} {k}"));
+}
+
+/// A drawn ring of every version at each of the eight poses, both sides; how many are fixed as they were drawn.
+pub fn poses() {
+    let (mut count, mut fixed) = (0, 0);
+    for v in 1..=64u8 {
+        for pose in 0..8u32 {
+            let n = 3 * (17 + 4 * v as u32 + 10);
+            let p = draw_ring(v, 3, pose % 4, pose >= 4, n, n);
+            let q = outline(&p, true);
+            let c = case(p, &q, 64);
+            let call = trace(&c, [c.nums.len() as u32; 3]);
+            let got = crate::calls::ours(&call);
+            if got != call.want {
+                println!("differs: version {v} pose {pose}\n  Rust   {:x?}\n  finder {:x?}", call.want, got);
+                std::process::exit(1);
+            }
+            count += 1;
+            fixed += (got[11] == 1 && got[12] == v as u32 && got[15] == (pose >= 4) as u32) as u32;
+        }
+    }
+    println!("{count} drawn rings, 64 versions at 8 poses, 0 different, {fixed} fixed at their version and direction");
 }
 
 fn random(r: &mut Rng) -> Call {

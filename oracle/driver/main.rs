@@ -47,6 +47,7 @@ fn main() {
         Some("attempt") => say(att::run(&att::decode(&stdin()))),
         Some("attempt-verbose") => say(att::verbose(&att::decode(&stdin()))),
         Some("attempts") => attempts::run(num(2, 1), num(3, 1000)),
+        Some("poses") => attempts::poses(),
         Some("attempt-case") => std::io::stdout().write_all(&attempts::bytes(num(2, 1), num(3, 0))).unwrap(),
         Some("calc") => calc::run(),
         Some("fuzz") => fuzz::run(num(2, 1), num(3, 10000)),
@@ -67,7 +68,7 @@ fn main() {
             which.into_iter().for_each(|x| calls::compare(x, num(3, 1), seconds, num(5, u64::MAX)));
         }
         _ => {
-            eprintln!("usage: oracle traylist|sample|program PATH SEED N|dump|attempt|attempt-verbose|attempts SEED N|attempt-case SEED K|calc|fuzz SEED N|bench|wide SEED SECONDS [SIDE]|vectors AREA|compare AREA|all SEED SECONDS [MOST]");
+    &[];
             std::process::exit(2);
         }
     }
