@@ -16,13 +16,12 @@ ghost use Rattle.transform.specs.Mapping.{
 
 // Eight coefficients and three lens numbers, all f64. The pixel of (u, v) is
 // (m0 u + m1 v + m2, m3 u + m4 v + m5) / (m6 u + m7 v + 1), then bent about (cx, cy) by kappa.
-// Those of x and of y stand by turns, so that both are computed at once.
 pub struct Transform {
     pub m0: f64,
-    pub m3: f64,
     pub m1: f64,
-    pub m4: f64,
     pub m2: f64,
+    pub m3: f64,
+    pub m4: f64,
     pub m5: f64,
     pub m6: f64,
     pub m7: f64,
