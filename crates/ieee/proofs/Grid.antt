@@ -4,7 +4,8 @@
 use mathlib.Core.Path.{_≡_, sym, ap, _∙_, subst}
 use mathlib.Core.Logic.{_⊎_, inl, inr}
 use Prim.Native.Nat.{ℕ, _+_, _-_, _*_, _^_, _≤_, _<_}
-use native.Mathlib.Nat.{le-trans, le-of-eq, le-of-lt, lt-of-lt-of-le, not-le-of-lt, mul-assoc, mul-le-mul-right, lt-of-mul-lt-mul-right, suc-mul}
+use native.Mathlib.Nat.{le-trans, le-of-eq, le-of-lt, lt-of-lt-of-le, not-le-of-lt, mul-assoc, mul-le-mul-right}
+use native.Mathlib.Nat.{lt-of-mul-lt-mul-right, suc-mul}
 use native.Mathlib.Omega.{arith}
 use lib.Pow.{pow-add, pow-mono, shl-lt}
 use Rattle.ieee.proofs.Values.{lt-or-ge}

@@ -121,7 +121,8 @@ decode f b h = fields-val f (leb (top f) b) (field f b) (b % hid f) h
 -- ---- writing a pattern: q * 2 ^ k smallest values of an `f32` have the pattern k * 2 ^ 23 + q, with the sign
 units-odd : (s : Bool) (q k : ℕ) → q * 2 ^ k < 2 ^ 277 → units binary32 s q k ≡ odd 25 s q k 149
 unfolding units
-units-odd s q k below = ap (λ (b : Bool). cond b (odd 25 s q k 149) (inf s)) (is-true (ltb (q * 2 ^ k) (2 ^ 277)) (lt→ltb (q * 2 ^ k) (2 ^ 277) below))
+units-odd s q k below =
+    ap (λ (b : Bool). cond b (odd 25 s q k 149) (inf s)) (is-true (ltb (q * 2 ^ k) (2 ^ 277)) (lt→ltb (q * 2 ^ k) (2 ^ 277) below))
 
 -- what is below the infinity and has few digits is a value of the format
 pub short-fits : (s : Bool) (q k : ℕ) → q ≤ 16777216 → q * 2 ^ k < 2 ^ 277 → T (fits binary32 (units binary32 s q k))

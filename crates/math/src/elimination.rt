@@ -3,8 +3,8 @@ ghost use mathlib.Core.Path.{_≡_};
 ghost use Prim.Native.Nat.{_+_, _-_, _*_, _<_, _≤_};
 ghost use lib.ListN.{length};
 ghost use Rattle.math.specs.Lists.{at};
-ghost use Rattle.math.specs.Elimination.{sys, pivot, swapOn, rowLess, clear, clearOn, arranged};
-ghost use Rattle.math.specs.Elimination.{forwardOn, lessOn, backOn};
+ghost use Rattle.math.specs.Elimination.{sys, pivot, swapOn, rowLess, clear, clearOn};
+ghost use Rattle.math.specs.Elimination.{arranged, forwardOn, lessOn, backOn};
 
 // The row from column c's diagonal on whose entry in column c is greatest in magnitude.
 fn pivot_row(a: &[f64], n: usize, c: usize) -> usize

@@ -5,7 +5,7 @@ use mathlib.Core.Path.{_≡_, refl, sym, ap, _∙_}
 use mathlib.Core.Bool.{Bool, true, false, cond}
 use lib.Ieee.{Float, nan, inf, fin, Format, binary64, add, sub, mul, div, eq}
 use Rattle.ieee.specs.Narrow.{narrow}
-use Rattle.transform.specs.Mapping.{zero, plane, bent, rounds, aboutCentre, throughLens, guarded, flatPlace, rounded, applied, noPixel}
+use Rattle.transform.specs.Mapping.{zero, plane, bent, rounds, aboutCentre, throughLens, flatPlace, rounded, applied, noPixel}
 use Rattle.transform.specs.declared.Transform.{Transform}
 use Rattle.transform.specs.declared.Pixel.{Pixel}
 use Rattle.transform.specs.declared.Place.{Place}
