@@ -60,7 +60,9 @@ left-requires c κs = search needs
 
 same-length-5 : tie.Need-same-length-5
 same-length-5 c =
-    c .before .before .before .before .before .before .before .before .before .before .before .before .before .before .before .attempt .kept .1 .1 .1 .1 .1 .0 ∙ c .before .before .before .before .before .before .before .before .before .before .before .before .before .before .before .before .before .before .before .before .before .before .before .before .before .before .before .before .before .lend .kept .0
+    let made = c .before .before .before .before .before .before .before .before .before .before .before .before .before .before .before in
+    let lent = made .before .before .before .before .before .before .before .before .before .before .before .before .before .before in
+    made .attempt .kept .1 .1 .1 .1 .1 .0 ∙ lent .lend .kept .0
 
 same-length-6 : tie.Need-same-length-6
 same-length-6 c = search needs

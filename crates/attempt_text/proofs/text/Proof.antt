@@ -1,8 +1,7 @@
 -- `attempt_text::text`: the first m numbers of the room are filled, m at most 32,770. Assumes nothing.
-use mathlib.Core.Path.{_≡_, sym, _∙_}
-use Prim.Native.Nat.{_≤_}
+use mathlib.Core.Path.{sym, _∙_}
 use native.Mathlib.Omega.{arith}
-use lib.ListN.{length, take, length-take}
+use lib.ListN.{length-take}
 use Rattle.packed.proofs.Places.{front, refilled}
 use borrow.Author.Needs.{needs}
 use Rattle.attempt_text.proofs.text.Statement.{statement}
@@ -75,13 +74,10 @@ array-borrow-prefix-points : tie.Need-array-borrow-prefix-points
 array-borrow-prefix-points c = search needs
 
 slice-aggregate-read : tie.Need-slice-aggregate-read
-slice-aggregate-read c =
-    front _ _ (omega (arith, c .before .list-room .ensures, c .before .before .before .capped .ensures))
+slice-aggregate-read c = front _ _ (omega (arith, c .before .list-room .ensures, c .before .before .before .capped .ensures))
 
 read-requires : tie.Need-read-requires
-read-requires c κs =
-    let few : c .before .before .before .capped .result ≤ 32770 = c .before .before .before .capped .ensures in
-    (omega arith, simp length-take (omega (arith, few)))
+read-requires c κs = (omega arith, simp length-take (omega (arith, c .before .before .before .capped .ensures)))
 
 sub-of-points : tie.Need-sub-of-points
 sub-of-points c = search needs
@@ -94,19 +90,18 @@ part-of-points-end c = search needs
 
 array-share-prefix-points : tie.Need-array-share-prefix-points
 array-share-prefix-points c =
-    let m = c .before .before .before .before .before .before .capped .result in
-    let b = c .before .before .before .before .list-room .result in
-    let held = front m b (omega (arith, c .before .before .before .before .list-room .ensures, c .before .before .before .before .before .before .capped .ensures)) in
-    let k : length (c .before .before .read .last .1 .1 .0) ≡ length (take m b) = c .before .before .read .kept .1 .1 .0 in
-    refilled m (c .before .before .read .last .1 .1 .0) b (held ∙ sym k)
+    let m = c .before .before .before .before .before .before .capped in
+    let b = c .before .before .before .before .list-room in
+    let held = front (m .result) (b .result) (omega (arith, b .ensures, m .ensures)) ∙ sym (c .before .before .read .kept .1 .1 .0) in
+    refilled (m .result) (c .before .before .read .last .1 .1 .0) (b .result) held
 
 slice-aggregate-of-points : tie.Need-slice-aggregate-of-points
 slice-aggregate-of-points c =
-    let m = c .before .before .before .before .before .before .before .capped .result in
-    let b = c .before .before .before .before .before .list-room .result in
-    let held = front m b (omega (arith, c .before .before .before .before .before .list-room .ensures, c .before .before .before .before .before .before .before .capped .ensures)) in
-    let k : length (c .before .before .before .read .last .1 .1 .0) ≡ length (take m b) = c .before .before .before .read .kept .1 .1 .0 in
-    front m _ (refilled m (c .before .before .before .read .last .1 .1 .0) b (held ∙ sym k))
+    let m = c .before .before .before .before .before .before .before .capped in
+    let b = c .before .before .before .before .before .list-room in
+    let r = c .before .before .before .read in
+    let held = front (m .result) (b .result) (omega (arith, b .ensures, m .ensures)) ∙ sym (r .kept .1 .1 .0) in
+    front (m .result) _ (refilled (m .result) (r .last .1 .1 .0) (b .result) held)
 
 of-points-requires : tie.Need-of-points-requires
 of-points-requires c κs = search needs
