@@ -68,7 +68,7 @@ fn main() {
             which.into_iter().for_each(|x| calls::compare(x, num(3, 1), seconds, num(5, u64::MAX)));
         }
         _ => {
-    &[];
+            eprintln!("usage: oracle traylist|sample|program PATH SEED N|dump|attempt|attempt-verbose|attempts SEED N|attempt-case SEED I|poses|calc|fuzz SEED N|bench|wide SEED SECONDS [SIDE]|vectors AREA|compare AREA|all SEED SECONDS [MOST]");
             std::process::exit(2);
         }
     }
