@@ -187,3 +187,13 @@ count-into p (suc k) q m f to one = go (count-into p k) (which (p k))
               ∙ to a (omega arith) t .1,
         )) (λ a b x y. one a b (omega arith) (omega arith)) in
         omega (arith, count-yes p k e, count-add (but q (f k)) q (f k) m (z .0) (but-out q (f k)) (z .1) (λ c d n. but-in q (f k) c n))
+
+-- where some are counted, there is one
+pub count-some : (p : ℕ → Bool) (k : ℕ) → 0 < count p k → (c : ℕ) × (c < k) × (p c ≡ true)
+unfolding count
+count-some p zero l = absurd (omega arith)
+count-some p (suc k) l = go (which (p k)) (count-some p k)
+  where
+    go : (p k ≡ true) ⊎ (p k ≡ false) → (0 < count p k → (c : ℕ) × (c < k) × (p c ≡ true)) → (c : ℕ) × (c < suc k) × (p c ≡ true)
+    go (inl e) ih = (k, omega arith, e)
+    go (inr e) ih = let r = ih (omega (arith, count-no p k e, l)) in (r .0, omega (arith, r .1), r .2)

@@ -1,13 +1,14 @@
--- Lists with numbers stored one after the other, and reads that need no default. sets-append, map-append, laid-is; getD-any; below-next.
--- Assumes nothing.
-use mathlib.Core.Path.{_≡_, refl, ap, _∙_, subst}
+-- Lists with elements stored one after the other, and reads that need no default. sets-append, map-append, laid-is; stored-none, stored-one,
+-- stored-append, stored-ext, stored-length, stored-laid; getD-any; below-next. Assumes nothing.
+use mathlib.Core.Path.{_≡_, refl, sym, ap, _∙_, subst}
 use mathlib.Core.Logic.{_⊎_, inl, inr}
 use mathlib.Core.List.{List, [], _∷_, _++_, map}
 use Prim.Native.Nat.{ℕ, zero, suc, _+_, _≤_, _<_}
 use native.Mathlib.Nat.{add-zero, zero-add, eq-or-lt-of-le, not-suc-le-zero, le-of-suc-le-suc}
 use native.Mathlib.Omega.{arith}
-use lib.ListN.{length, getD, set, drop}
-use lib.Seq.{sets, sets-eq}
+use lib.ListN.{length, getD, set, drop, length-append}
+use lib.Seq.{sets, sets-eq, length-sets}
+use Rattle.laws.specs.Lent.{Stored}
 
 -- stores that follow each other are one store
 pub sets-append : {A : Type 0} (l : List A) (i : ℕ) (us vs : List A) → sets (sets l i us) (i + length us) vs ≡ sets l i (us ++ vs)
@@ -23,6 +24,36 @@ map-append {A} {B} f (a ∷ us) vs = ap (λ (l : List B). f a ∷ l) (map-append
 -- a store from the first place on, with the rest of the list
 pub laid-is : {A : Type 0} (us old : List A) → length us ≤ length old → sets old 0 us ≡ us ++ drop (length us) old
 laid-is us old fit = sets-eq us old 0 (rw (zero-add (length us)) fit) ∙ ap (λ (k : ℕ). us ++ drop k old) (zero-add (length us))
+
+-- ---- from one place to the next
+pub stored-none : {A : Type 0} (at : ℕ) (l : List A) → Stored at [] l l at
+stored-none at l = record { list = refl; next = sym (add-zero at) }
+
+pub stored-one : {A : Type 0} (at : ℕ) (a : A) (l : List A) → Stored at (a ∷ []) l (set l at a) (at + 1)
+stored-one at a l = record { list = refl; next = refl }
+
+pub stored-append : {A : Type 0} {at : ℕ} {us vs l l′ l″ : List A} {r r′ : ℕ} → Stored at us l l′ r → Stored r vs l′ l″ r′
+    → Stored at (us ++ vs) l l″ r′
+stored-append {A} {at} {us} {vs} {l} {l′} {l″} {r} {r′} v w = record {
+  list =
+      w .list
+      ∙ ap (λ (q : List A). sets q r vs) (v .list)
+      ∙ ap (λ (k : ℕ). sets (sets l at us) k vs) (v .next)
+      ∙ sets-append l at us vs;
+  next = w .next ∙ sum at (length us) (length vs) r (v .next) ∙ ap (λ (k : ℕ). at + k) (sym (length-append us vs));
+}
+  where
+    sum : (at a b r : ℕ) → r ≡ at + a → r + b ≡ at + (a + b)
+    sum at a b r e = omega arith
+
+pub stored-ext : {A : Type 0} {at : ℕ} {l l′ : List A} {r : ℕ} (us vs : List A) → us ≡ vs → Stored at us l l′ r → Stored at vs l l′ r
+stored-ext {A} {at} {l} {l′} {r} us vs e w = subst (λ (q : List A). Stored at q l l′ r) e w
+
+pub stored-length : {A : Type 0} {at : ℕ} {us l l′ : List A} {r : ℕ} → Stored at us l l′ r → length l′ ≡ length l
+stored-length {A} {at} {us} {l} w = ap length (w .list) ∙ length-sets l at us
+
+pub stored-laid : {A : Type 0} {us l l′ : List A} {r : ℕ} → Stored 0 us l l′ r → length us ≤ length l → l′ ≡ us ++ drop (length us) l
+stored-laid {A} {us} {l} w fit = w .list ∙ laid-is us l fit
 
 -- an index within a list needs no default
 pub getD-any : {A : Type 0} (l : List A) (i : ℕ) (a b : A) → i < length l → getD l i a ≡ getD l i b

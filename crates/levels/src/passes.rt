@@ -8,17 +8,7 @@ ghost use Rattle.laws.specs.Plane.{plane, drawn, binsOf};
 ghost use Rattle.levels.specs.Level.{west, east, north, south, nonzero, mean, fillAt, passes};
 ghost use Rattle.levels.specs.Steps.{Grid, Bytes};
 
-// The side neighbours of a cell, 0 outside the grid.
-fn west_of(g: &[u8], w: usize, x: usize, y: usize) -> u8
-    requires { ⌜ y * w + x < length (now g) ⌝ }
-    ensures { λ r. ⌜ r ≡ west (plane w (now (g .entry))) x y ⌝ }
-{
-    if x == 0 {
-        return 0;
-    }
-    g[y * w + (x - 1)]
-}
-
+// The side neighbours of a cell but the west one, 0 outside the grid.
 fn east_of(g: &[u8], w: usize, x: usize, y: usize) -> u8
     requires { ⌜ y * w + w ≤ length (now g) ⌝ }
     requires { ⌜ x < w ⌝ }
@@ -70,25 +60,27 @@ fn mean_of(a: u8, b: u8, c: u8, d: u8) -> u8
     (sum / n) as u8
 }
 
-// One cell after a fill pass.
-fn fill_cell(g: &[u8], w: usize, h: usize, x: usize, y: usize) -> u8
+// One cell after a fill pass, of v in it and of the byte to its west.
+fn fill_cell(g: &[u8], w: usize, h: usize, x: usize, y: usize, v: u8, left: u8) -> u8
     requires { ⌜ Grid (now g) w h ⌝ }
     requires { ⌜ (x < w) × (y < h) ⌝ }
+    requires { ⌜ v ≡ plane w (now g) x y ⌝ }
+    requires { ⌜ left ≡ west (plane w (now g)) x y ⌝ }
     ensures { λ r. ⌜ r ≡ fillAt w h (plane w (now (g .entry))) x y ⌝ }
 {
-    let v = g[y * w + x];
     if v != 0 {
         return v;
     }
     mean_of(
-        west_of(g, w, x, y),
+        left,
         east_of(g, w, x, y),
         north_of(g, w, x, y),
         south_of(g, w, h, x, y),
     )
 }
 
-// One fill pass, from the grid prev into the grid next.
+// One fill pass, from the grid prev into the grid next. The byte to the west is the one that prev
+// has there, kept from the cell before; at the beginning of a row it is 0.
 fn fill_pass(prev: &[u8], next: &mut [u32], w: usize, h: usize)
     requires { ⌜ Grid (now prev) w h ⌝ }
     requires { ⌜ w * h ≤ length (now next) ⌝ }
@@ -101,11 +93,16 @@ fn fill_pass(prev: &[u8], next: &mut [u32], w: usize, h: usize)
     let mut k = 0;
     let mut x = 0;
     let mut y = 0;
+    let mut left: u8 = 0;
     while k < n {
-        next[k] = fill_cell(prev, w, h, x, y) as u32;
+        let here = prev[k];
+        let filled = fill_cell(prev, w, h, x, y, here, left);
+        next[k] = filled as u32;
+        left = here;
         k += 1;
         x += 1;
         if x == w {
+            left = 0;
             x = 0;
             y += 1;
         }

@@ -22,7 +22,8 @@ use Rattle.levels.specs.Level.{cells, level}
 use Rattle.regions.specs.Cells.{cells8, cellsOf, labelAt}
 use Rattle.regions.specs.Boxes.{regionBox}
 use Rattle.regions.specs.Kept.{keptCount, keptOf, keptLabel, keptCells}
-use Rattle.regions.specs.Door.{isSide, checkPicture, checkGrids, noRegion, region, regionAt, keptRegions, answerBy, levelsAfter}
+use Rattle.checks.specs.Picture.{isSide, checkPicture}
+use Rattle.regions.specs.Door.{checkGrids, noRegion, region, regionAt, keptRegions, answerBy, levelsAfter}
 use Rattle.regions.specs.Door.{labelsAfter}
 use Rattle.regions.specs.declared.answer.Region.{Region}
 use Rattle.listing.proofs.Inside.{kept-inside, groups-le, label-le, cells-le}

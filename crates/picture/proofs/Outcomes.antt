@@ -11,6 +11,7 @@ use lib.Dec.{eqb, leb}
 use lib.Ieee.Order.{kept}
 use lib.ListN.{List·getD-eq-default, drop, getD, length, length-take, replicate, take}
 use lib.Seq.{drop-drop, getD-take, length-take-le}
+use Rattle.checks.specs.Picture.{isSide}
 use Rattle.labels.proofs.InkCells.{marks-inked}
 use Rattle.labels.proofs.Labellings.{label-most}
 use Rattle.labels.specs.Labelling.{Answers, cleared, given}
@@ -30,7 +31,7 @@ use Rattle.regions.proofs.Cells.{grid}
 use Rattle.regions.proofs.Groups.{cell-of}
 use Rattle.regions.proofs.Pictures.{ink-inside}
 use Rattle.regions.specs.Cells.{cellLabel, cells8, cellsOf, groupsOf, inkCell, labelAt}
-use Rattle.regions.specs.Door.{answerBy, checkGrids, checkPicture, isSide, refusedBy}
+use Rattle.regions.specs.Door.{answerBy, checkGrids, refusedBy}
 use Rattle.regions.specs.Labels.{first?, label, near}
 use Rattle.labels.specs.declared.groups.Next.{Next}
 use Rattle.regions.specs.declared.answer.Kept.{Kept}
@@ -140,19 +141,6 @@ labelled-by s old w h is all = record {
 }
 
 -- ---- the checks
--- a refusal by the picture's own checks, whatever follows these
-pub check-off : (w h bytes rest : ℕ) → (checkPicture w h bytes 0 ≡ 0 → ⊥) → checkPicture w h bytes 0 ≡ checkPicture w h bytes rest
-check-off w h bytes rest off = go (isSide w) (isSide h) (eqb bytes (w * h)) off
-  where
-    chain : Bool → Bool → Bool → ℕ → ℕ
-    chain a b c n = orRefuse a 1 (orRefuse b 1 (orRefuse c 2 n))
-
-    go : (a b c : Bool) → (chain a b c 0 ≡ 0 → ⊥) → chain a b c 0 ≡ chain a b c rest
-    go false b c off = refl
-    go true false c off = refl
-    go true true false off = refl
-    go true true true off = absurd (off refl)
-
 pub check-few : (w h bytes grid labels stack : ℕ) → checkGrids w h bytes grid labels stack ≤ 3
 check-few w h bytes grid labels stack =
     go (isSide w) (isSide h) (eqb bytes (w * h)) (leb (cells w * cells h) grid) (leb (cellsOf w h) labels) (leb (cellsOf w h) stack)

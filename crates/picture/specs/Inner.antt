@@ -11,14 +11,7 @@ use Rattle.laws.specs.Plane.{plane, drawn}
 use Rattle.levels.specs.Level.{cells}
 use Rattle.regions.specs.Cells.{cells8, cellsOf, cellLabel, labelAt, groupsOf}
 
--- What the checks tell where none refuses: of the sides and the picture's bytes, and of the places of the three lent lists.
-pub record Sides (w h bytes : ℕ) : Type 0 where
-  pub w-low : 1 ≤ w
-  pub w-high : w ≤ 4096
-  pub h-low : 1 ≤ h
-  pub h-high : h ≤ 4096
-  pub count : bytes ≡ w * h
-
+-- What the checks of the lent lists tell where none refuses: the places that they have.
 pub record Places (w h grid labels stack : ℕ) : Type 0 where
   pub grids : cells w * cells h ≤ grid
   pub label : cellsOf w h ≤ labels

@@ -5,9 +5,9 @@ ghost use lib.ListN.{length};
 ghost use Rattle.laws.specs.Plane.{plane, drawn};
 ghost use Rattle.levels.specs.Level.{cells, level};
 ghost use Rattle.levels.specs.Steps.{Picture, Rooms};
+ghost use Rattle.checks.specs.Picture.{Sides};
 ghost use Rattle.regions.specs.Cells.{cells8, cellsOf};
 ghost use Rattle.regions.specs.Door.{
-  checkPicture,
   checkGrids,
   keptRegions,
   refusedBy,
@@ -17,7 +17,8 @@ ghost use Rattle.regions.specs.Door.{
   StackAfter,
 };
 ghost use Rattle.laws.specs.Lent.{UntouchedPast};
-ghost use Rattle.picture.specs.Inner.{Sides, Places, Mapped, LabelledBy};
+ghost use Rattle.picture.specs.Inner.{Places, Mapped, LabelledBy};
+use checks::check_picture;
 use labels::cells::mark_cells;
 use labels::cells::region_cells;
 use labels::groups::Next;
@@ -28,30 +29,6 @@ use regions::answer::Kept;
 use regions::answer::PictureAnswer;
 use regions::answer::Region;
 use regions::top::regions;
-
-// The checks of the picture, on numbers: its sides and bytes. The number of the first that fails,
-// else 0.
-fn check_picture(w: usize, h: usize, bytes: usize) -> u32
-    ensures { λ r. ⌜ r ≡ checkPicture w h bytes 0 ⌝ }
-    ensures { λ r. ⌜ (r ≡ 0 → Sides w h bytes) ⌝ }
-{
-    if w < 1 {
-        return 1;
-    }
-    if 4096 < w {
-        return 1;
-    }
-    if h < 1 {
-        return 1;
-    }
-    if 4096 < h {
-        return 1;
-    }
-    if bytes != w * h {
-        return 2;
-    }
-    0
-}
 
 // The checks of the lent lists, by how many places they have, where those of the picture passed.
 fn check_lists(w: usize, h: usize, bytes: usize, grid: usize, labels: usize, stack: usize) -> u32

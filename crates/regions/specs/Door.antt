@@ -8,6 +8,7 @@ use lib.Dec.{eqb, leb, ltb}
 use lib.ListN.{length}
 use Rattle.laws.specs.Lent.{UntouchedPast, zeros}
 use Rattle.laws.specs.Check.{orRefuse}
+use Rattle.checks.specs.Picture.{checkPicture}
 use Rattle.laws.specs.Plane.{Plane, plane, drawn}
 use Rattle.levels.specs.Level.{cells, level}
 use Rattle.regions.specs.Boxes.{regionBox}
@@ -18,18 +19,6 @@ use Rattle.regions.specs.declared.answer.PictureAnswer.{PictureAnswer}
 use Rattle.regions.specs.declared.answer.Region.{Region}
 
 -- ---- the checks
-
--- A side is 1 to 4,096.
-abbrev pub isSide : ℕ → Bool
-isSide n = leb 1 n && leb n 4096
-
--- 1: a side outside 1..4,096. 2: bytes not width × height. What follows these is `rest`.
-abbrev pub checkPicture : ℕ → ℕ → ℕ → ℕ → ℕ
-checkPicture w h bytes rest =
-    orRefuse (isSide w) 1
-    (orRefuse (isSide h) 1
-    (orRefuse (eqb bytes (w * h)) 2
-    rest))
 
 -- 3: a lent grid shorter than its cells, or the stack shorter than the region cells. 0 is no refusal. Refusal 4, a push that finds the
 -- stack full, is no number of this chain: with as many places on the stack as there are region cells no push finds it full.

@@ -24,7 +24,8 @@ use Rattle.levels.specs.Level.{cells}
 use Rattle.regions.specs.Cells.{cells8, cellsOf, groupsOf, groupSize}
 use Rattle.regions.specs.Kept.{keptCount, keptLabel}
 use Rattle.regions.specs.Boxes.{regionBox}
-use Rattle.regions.specs.Door.{isSide, checkGrids, region, keptRegions}
+use Rattle.checks.specs.Picture.{isSide}
+use Rattle.regions.specs.Door.{checkGrids, region, keptRegions}
 use Rattle.regions.specs.declared.answer.Kept.{Kept}
 use Rattle.regions.specs.declared.answer.Region.{Region}
 use Rattle.regions.proofs.Regions.{region-cell, region-in}

@@ -26,7 +26,8 @@ use Rattle.levels.specs.Level.{cells, level}
 use Rattle.regions.specs.Cells.{cells8, cellsOf, labelAt}
 use Rattle.regions.specs.Kept.{keptOf, keptCount, keptLabel}
 use Rattle.regions.specs.Boxes.{regionBox}
-use Rattle.regions.specs.Door.{noRegion, region, regionAt, keptRegions, isSide, checkGrids, answerBy, levelsAfter, labelsAfter}
+use Rattle.checks.specs.Picture.{isSide}
+use Rattle.regions.specs.Door.{noRegion, region, regionAt, keptRegions, checkGrids, answerBy, levelsAfter, labelsAfter}
 use Rattle.regions.specs.declared.answer.Kept.{Kept}
 use Rattle.regions.specs.declared.answer.PictureAnswer.{PictureAnswer}
 use Rattle.regions.specs.declared.answer.Region.{Region}

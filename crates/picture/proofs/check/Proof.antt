@@ -3,7 +3,7 @@ use Prim.Native.Nat.{ℕ}
 use mathlib.Core.Path.{_∙_, sym}
 use native.Mathlib.Omega.{arith}
 use borrow.Author.Needs.{needs}
-use Rattle.picture.proofs.Outcomes.{check-off}
+use Rattle.checks.proofs.Checked.{check-off}
 use Rattle.picture.proofs.check.Statement.{statement}
 use Rattle.picture.proofs.check.Tie as tie
 

@@ -1,4 +1,5 @@
--- The first k cells of next are drawn and bytes, and k is in column x and row y; the measure is the cells left. Assumes nothing.
+-- The first k cells of next are drawn and bytes, k is in column x and row y, and left is what prev has to the west of it; the measure is
+-- the cells left. Assumes nothing.
 use Prim.Native.Nat.{_*_, _-_}
 use native.Mathlib.Omega.{arith}
 use borrow.Author.Needs.{needs}

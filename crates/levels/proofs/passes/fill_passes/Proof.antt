@@ -21,7 +21,7 @@ fill-pass-requires : tie.Need-fill-pass-requires Inv-loop μ-loop
 fill-pass-requires c κs =
     let f = c .before .before .before .loop .inv in
     let p = c .before .before .before .before .before .before .pre in
-    (record { wide = p .0 .wide; high = p .0 .high; room = rw (f .same) (p .0 .room) }, rw (f .same-work) (p .1 .room))
+    (record { wide = p .0 .wide; high = p .0 .high; room = rw (f .same) (p .0 .room) }, rw (f .past .same) (p .1 .room))
 
 mul-narrow : tie.Need-mul-narrow Inv-loop μ-loop
 mul-narrow c = omega arith
@@ -31,7 +31,7 @@ narrow-requires c κs =
     let f = c .before .before .before .before .before .before .before .before .loop .inv in
     let p = c .before .before .before .before .before .before .before .before .before .before .before .pre in
     let fill = c .before .before .before .before .fill-pass in
-    ((rw (fill .kept .1 .0, f .same-work) (p .1 .room), rw (f .same) (p .0 .room)), fill .ensures .1)
+    ((rw (fill .kept .1 .0, f .past .same) (p .1 .room), rw (f .same) (p .0 .room)), fill .ensures .1)
 
 add-i : tie.Need-add-i Inv-loop μ-loop
 add-i c = omega arith
@@ -51,7 +51,7 @@ same-length : tie.Need-same-length Inv-loop μ-loop
 same-length c = c .before .loop .inv .same
 
 same-length-2 : tie.Need-same-length-2 Inv-loop μ-loop
-same-length-2 c = c .before .loop .inv .same-work
+same-length-2 c = c .before .loop .inv .past .same
 
 returns : tie.Need-returns Inv-loop μ-loop
 returns c = (filling-end (c .before .loop .inv) (c .loop-test .left), c .before .loop .inv .past)

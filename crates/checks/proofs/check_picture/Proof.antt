@@ -3,8 +3,8 @@ use Prim.Native.Nat.{_*_}
 use native.Mathlib.Nat.{mul-le-mul}
 use native.Mathlib.Omega.{arith}
 use borrow.Author.Tests.{eq-eqb, le-leb, lt-leb, ne-eqb}
-use Rattle.picture.proofs.check_picture.Statement.{statement}
-use Rattle.picture.proofs.check_picture.Tie as tie
+use Rattle.checks.proofs.check_picture.Statement.{statement}
+use Rattle.checks.proofs.check_picture.Tie as tie
 
 returns : tie.Need-returns
 returns c =

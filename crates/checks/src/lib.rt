@@ -1,0 +1,26 @@
+// The checks of a picture that every door that takes one makes first.
+ghost use mathlib.Core.Path.{_≡_};
+ghost use Rattle.checks.specs.Picture.{checkPicture, Sides};
+
+// The number of the first check of a picture's sides and bytes that fails, else 0.
+pub fn check_picture(w: usize, h: usize, bytes: usize) -> u32
+    ensures { λ r. ⌜ r ≡ checkPicture w h bytes 0 ⌝ }
+    ensures { λ r. ⌜ (r ≡ 0 → Sides w h bytes) ⌝ }
+{
+    if w < 1 {
+        return 1;
+    }
+    if 4096 < w {
+        return 1;
+    }
+    if h < 1 {
+        return 1;
+    }
+    if 4096 < h {
+        return 1;
+    }
+    if bytes != w * h {
+        return 2;
+    }
+    0
+}

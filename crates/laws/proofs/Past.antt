@@ -1,0 +1,28 @@
+-- A lent list that keeps the places past the first n. past-none: without a use; past-then: after two; past-more: past more places;
+-- drop-more. Assumes nothing.
+use mathlib.Core.Path.{_≡_, refl, sym, ap, _∙_}
+use mathlib.Core.List.{List}
+use Prim.Native.Nat.{ℕ, _+_, _-_, _≤_}
+use native.Mathlib.Omega.{arith}
+use lib.ListN.{drop}
+use lib.Seq.{drop-drop}
+use Rattle.laws.specs.Lent.{UntouchedPast}
+
+-- drop further on
+pub drop-more : {A : Type 0} (i j : ℕ) (a b : List A) → i ≤ j → drop i a ≡ drop i b → drop j a ≡ drop j b
+drop-more {A} i j a b h e =
+    let z : j ≡ i + (j - i) = omega arith in
+    ap (λ (n : ℕ). drop n a) z
+    ∙ sym (drop-drop (j - i) i a)
+    ∙ ap (drop (j - i)) e
+    ∙ drop-drop (j - i) i b
+    ∙ ap (λ (n : ℕ). drop n b) (sym z)
+
+pub past-none : {A : Type 0} (n : ℕ) (l : List A) → UntouchedPast n l l
+past-none n l = record { same = refl; past = refl }
+
+pub past-then : {A : Type 0} {n : ℕ} {a b c : List A} → UntouchedPast n a b → UntouchedPast n b c → UntouchedPast n a c
+past-then p q = record { same = q .same ∙ p .same; past = q .past ∙ p .past }
+
+pub past-more : {A : Type 0} {i : ℕ} {a b : List A} (j : ℕ) → i ≤ j → UntouchedPast i a b → UntouchedPast j a b
+past-more {A} {i} {a} {b} j h q = record { same = q .same; past = drop-more i j b a h (q .past) }
