@@ -1,11 +1,13 @@
 -- A lent list that keeps the places past the first n. past-none: without a use; past-then: after two; past-more: past more places;
--- drop-more. Assumes nothing.
+-- past-written: of which the first n are written; drop-more. Assumes nothing.
 use mathlib.Core.Path.{_≡_, refl, sym, ap, _∙_}
 use mathlib.Core.List.{List}
 use Prim.Native.Nat.{ℕ, _+_, _-_, _≤_}
 use native.Mathlib.Omega.{arith}
-use lib.ListN.{drop}
+use lib.ListN.{length, drop}
 use lib.Seq.{drop-drop}
+use Rattle.laws.proofs.Folds.{drop-written, length-written}
+use Rattle.laws.specs.Fold.{written}
 use Rattle.laws.specs.Lent.{UntouchedPast}
 
 -- drop further on
@@ -26,3 +28,6 @@ past-then p q = record { same = q .same ∙ p .same; past = q .past ∙ p .past 
 
 pub past-more : {A : Type 0} {i : ℕ} {a b : List A} (j : ℕ) → i ≤ j → UntouchedPast i a b → UntouchedPast j a b
 past-more {A} {i} {a} {b} j h q = record { same = q .same; past = drop-more i j b a h (q .past) }
+
+pub past-written : (n : ℕ) (f : ℕ → ℕ) (old : List ℕ) {new : List ℕ} → n ≤ length old → new ≡ written n f old → UntouchedPast n old new
+past-written n f old room e = record { same = ap length e ∙ length-written n f old room; past = ap (drop n) e ∙ drop-written n f old }
