@@ -1,31 +1,28 @@
 //! `bench-leaves`: times of numbers, marks, corners and the lens beside the Rust's, in one run. Each figure is the least of many
-//! rounds, the sides by turns, in nanoseconds a call. A table in Markdown.
+//! rounds, the sides by turns, in nanoseconds a call, of the processor. A table in Markdown.
 use crate::finder_leaves::*;
 use crate::looks::{Look, Ring, ring_of};
 use crate::marks::{lumas, positions, side};
 use crate::pic::Rng;
+use crate::timed::now;
 use lcr_decode::transform::Transform;
 use lcr_decode::{math, ring};
 use std::hint::black_box;
-use std::time::Instant;
 
 /// The least time a call of each side, over rounds of `reps` calls.
 fn row(name: &str, reps: usize, mut rust: impl FnMut(usize), mut ours: impl FnMut(usize)) {
-    let (mut a, mut b) = (f64::MAX, f64::MAX);
-    let from = Instant::now();
-    for round in 0..60 {
-        if round >= 9 && from.elapsed().as_secs_f64() > 2.0 {
-            break;
-        }
-        let t = Instant::now();
+    let (mut a, mut b, from) = (f64::MAX, f64::MAX, now());
+    let mut rounds = 0;
+    while rounds < 9 || (rounds < 60 && now() - from < 2e9) {
+        let t = now();
         (0..reps).for_each(&mut rust);
-        a = a.min(t.elapsed().as_secs_f64());
-        let t = Instant::now();
+        a = a.min(now() - t);
+        let t = now();
         (0..reps).for_each(&mut ours);
-        b = b.min(t.elapsed().as_secs_f64());
+        b = b.min(now() - t);
+        rounds += 1;
     }
-    let each = |t: f64| t / reps as f64 * 1e9;
-    println!("| {name} | {:.1} | {:.1} | {:.2} |", each(a), each(b), b / a);
+    println!("| {name} | {:.1} | {:.1} | {:.2} |", a / reps as f64, b / reps as f64, b / a);
 }
 
 fn roots(r: &mut Rng) {

@@ -109,7 +109,7 @@ fn circle(kind: &str, p: &Pic) {
 }
 
 pub fn run(seed: u64) {
-    println!("Equal answers on both sides; milliseconds, medians by turns; stack in bytes, by a painted stack.\n");
+    println!("Equal answers on both sides; milliseconds of the processor, medians by turns; stack in bytes, by a painted stack.\n");
     println!("| what, 4,096 by 4,096 | Rust | ours | ratio | stack of ours |\n|---|---|---|---|---|");
     for kind in KINDS.into_iter().chain(["spiral"]) {
         doors(kind, &picture(kind, 4096, seed));

@@ -4,7 +4,6 @@ use crate::pic::{Pic, Rng, draw_ring, photo_ring};
 use lcr_core::version::Version;
 use lcr_decode::ring::{self, InkMap};
 use std::hint::black_box;
-use std::time::Instant;
 
 pub const KINDS: [&str; 6] = ["noise", "blobs", "ring", "small regions", "blank", "photograph"];
 
@@ -20,7 +19,10 @@ pub fn picture(kind: &str, s: u32, seed: u64) -> Pic {
                 p.rect(x, y, x + r.range(4, 40), y + r.range(4, 40), 0)
             }
         }
-        "ring" => p = draw_ring(10, (s / 67).min(60), 1, true, s, s),
+        "ring" => {
+            let (version, pitch) = if s <= 256 { (10, 3) } else if s <= 1024 { (40, 5) } else { (64, 5) };
+            p = draw_ring(version, pitch, 1, true, s, s);
+        }
         "small regions" => small_regions(&mut p),
         "photograph" => p = photograph(s, &mut r),
         "spiral" => spiral(&mut p),
@@ -42,7 +44,7 @@ fn small_regions(p: &mut Pic) {
     p.rect(c, c, c + 40, c + 40, 0);
 }
 
-/// One line of ink that winds to the middle, a cell wide, four cells from turn to turn: the longest way of one region.
+/// One line of ink that winds to the middle, a cell wide, five cells from turn to turn: the longest way of one region.
 fn spiral(p: &mut Pic) {
     let s = p.w as i64;
     for k in (0..s / 2).step_by(40) {
@@ -85,17 +87,39 @@ fn photograph(s: u32, r: &mut Rng) -> Pic {
     p
 }
 
-/// Medians of the times of both sides, by turns, in nanoseconds: at least five rounds, then for half a second.
+#[repr(C)]
+struct Clock {
+    seconds: i64,
+    nanoseconds: i64,
+}
+
+unsafe extern "C" {
+    fn clock_gettime(which: i32, t: *mut Clock) -> i32;
+}
+
+/// The processor's time of this thread in nanoseconds: other programs on the machine take none of it.
+pub fn now() -> f64 {
+    let mut t = Clock { seconds: 0, nanoseconds: 0 };
+    // CLOCK_THREAD_CPUTIME_ID of Linux
+    assert_eq!(unsafe { clock_gettime(3, &mut t) }, 0);
+    t.seconds as f64 * 1e9 + t.nanoseconds as f64
+}
+
+/// The time of one call, from `reps` of them.
+fn timed(reps: usize, f: &mut impl FnMut()) -> f64 {
+    let t = now();
+    (0..reps).for_each(|_| f());
+    (now() - t) / reps as f64
+}
+
+/// Medians of the times of both sides, by turns, in nanoseconds a call: at least five rounds, then for half a second.
+/// A round has as many calls as take a tenth of a millisecond.
 pub fn both(mut rust: impl FnMut(), mut ours: impl FnMut()) -> (f64, f64) {
-    let (mut a, mut b) = (Vec::new(), Vec::new());
-    let from = Instant::now();
-    while a.len() < 5 || (from.elapsed().as_secs_f64() < 0.5 && a.len() < 201) {
-        let t = Instant::now();
-        rust();
-        a.push(t.elapsed().as_secs_f64() * 1e9);
-        let t = Instant::now();
-        ours();
-        b.push(t.elapsed().as_secs_f64() * 1e9);
+    let reps = (1e5 / timed(1, &mut rust).max(timed(1, &mut ours))).clamp(1.0, 10000.0) as usize;
+    let (mut a, mut b, from) = (Vec::new(), Vec::new(), now());
+    while a.len() < 5 || (now() - from < 5e8 && a.len() < 501) {
+        a.push(timed(reps, &mut rust));
+        b.push(timed(reps, &mut ours));
     }
     (median(a), median(b))
 }
@@ -108,7 +132,8 @@ fn median(mut v: Vec<f64>) -> f64 {
 /// The time of a loop that sums a picture's bytes.
 pub fn read(p: &Pic) -> f64 {
     let sum = || { black_box(black_box(&p.g).iter().map(|&b| b as u64).sum::<u64>()); };
-    both(sum, sum).0
+    let (a, b) = both(sum, sum);
+    a.min(b)
 }
 
 pub type Box4 = (u32, u32, u32, u32);
