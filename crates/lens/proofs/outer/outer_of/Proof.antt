@@ -1,5 +1,5 @@
--- `lens::outer::outer_of` meets its contract: the hull has at most as many vertices as there are points, they stand at the beginning of out,
--- and the quad is theirs. Assumes nothing.
+-- `lens::outer::outer_of` meets its contract: the hull has at most as many vertices as there are points, they stand at the beginning of
+-- out, and the quad is theirs. Assumes nothing.
 use mathlib.Core.Path.{sym}
 use native.Mathlib.Omega.{arith}
 use lib.Seq.{length-take-le}

@@ -82,8 +82,9 @@ part-a-start-3 c = search needs
 
 part-a-end-3 : tie.Need-part-a-end-3
 part-a-end-3 c =
-    rw (c .before .before .before .before .before .before .before .put-corner .ensures, c .before .before .before .before .put-corner2 .ensures, c .before .put-corner3 .ensures)
-    (omega arith)
+    let two = c .before .before .before .before in
+    let one = two .before .before .before in
+    rw (one .put-corner .ensures, two .put-corner2 .ensures, c .before .put-corner3 .ensures) (omega arith)
 
 array-read-put-corner-13 : tie.Need-array-read-put-corner-13
 array-read-put-corner-13 c = search needs
@@ -103,12 +104,10 @@ put-corner-requires-4 c κs = search needs
 returns : tie.Need-returns
 unfolding matrix
 returns c =
-    rw (
-      c .before .before .before .before .before .before .before .before .before .before .put-corner .ensures,
-      c .before .before .before .before .before .before .before .put-corner2 .ensures,
-      c .before .before .before .before .put-corner3 .ensures,
-      c .before .put-corner4 .ensures,
-    )
+    let three = c .before .before .before .before in
+    let two = three .before .before .before in
+    let one = two .before .before .before in
+    rw (one .put-corner .ensures, two .put-corner2 .ensures, three .put-corner3 .ensures, c .before .put-corner4 .ensures)
 
 pub equations-of-spec : {M : Type 1} → statement M
 equations-of-spec =
