@@ -83,7 +83,7 @@ returns c =
     ) at (r .ensures) in (
       is ∙ regions-listed (plane (a .w) (now (a .s))) (a .w) (a .h) (take n (now (a .labels)))
           (labels-tab (now (a .s)) (a .w) (a .h) (now (a .labels)) (a .v) (p .pre .1 .1) (p .pre .1 .0 .0)) (p .pre .1 .1 .all),
-      past-front n (a .v) (now (a .stack)) (r .last .1 .0) (omega arith) (r .kept .1 .0 ∙ long),
+      past-front n (a .v) (now (a .stack)) (r .last .1 .0) (omega arith) (omega arith) (r .kept .1 .0 ∙ long),
     )
 
 pub count-regions-spec : {M : Type 1} → statement M
