@@ -70,11 +70,12 @@ returns c =
     let a = d .before .before .before .before .before .before .before .args in
     let q = d .loop in
     let y = c .before .before .before .before .before .before .before .before .place2 in
+    let test = c .before .before .before .before .before .before .before .before .before .loop-test in
     let cuts = c .before .before .before .before .before .before .refill .ensures in
     let v = swept-turn (a .want) (a .w) (now (a .s)) (now (a .levels)) (now (a .labels)) (a .y0) (a .rows) (a .x) (a .n) (a .back) (q .k)
     (q .state) _ (y .result) _ (q .inv .3) cuts (y .ensures .0) (c .before .before .before .sweep-row .ensures) in
     swept-early (memberAt (a .want) (a .w) (now (a .s)) (now (a .levels)) (now (a .labels))) (a .y0) (a .rows) (a .x) (a .n) (a .back)
-    (q .k + 1) _ v (c .before .all-found .ensures (c .if1 .taken)) (omega (arith, c .before .before .before .before .before .before .before .before .before .loop-test))
+    (q .k + 1) _ v (c .before .all-found .ensures (c .if1 .taken)) (omega (arith, test))
 
 loop-less : tie.Need-loop-less Inv-loop μ-loop
 loop-less c = search needs
