@@ -89,7 +89,8 @@ loop-again-2 c =
     let fill = c .before .fill-cell in (
       drawing-on d (c .before .before .before .loop-test .taken) (omega arith) (fill .ensures) (c .if1 .left),
       small-step 255 (at .loop .k) (fill .result) (at .loop .next) (at .loop .inv .1) (omega arith) (omega (arith, d .same)),
-      (ap (λ (k : ℕ). getD (now (p .args .prev)) k 0) (d .place) ∙ west-next (plane (p .args .w) (now (p .args .prev))) (at .loop .x) (at .loop .y)),
+      ap (λ (k : ℕ). getD (now (p .args .prev)) k 0) (d .place)
+          ∙ west-next (plane (p .args .w) (now (p .args .prev))) (at .loop .x) (at .loop .y),
     )
 
 same-length : tie.Need-same-length Inv-loop μ-loop
