@@ -18,7 +18,7 @@ use Rattle.hull.specs.Hull.{hullTests, hullOf, hullFloats}
 use Rattle.hull.specs.Quad.{valuesOf, quadFloats}
 use Rattle.hull.specs.declared.points.Corners.{Corners}
 use Rattle.hull.specs.declared.points.Corners.the-variants.{Found, NoQuad}
-use Rattle.fit.specs.Select.{UntouchedPast}
+use Rattle.laws.specs.Lent.{UntouchedPast}
 use Rattle.lens.specs.Estimate.{quadFrom, hullQuad}
 
 -- ---- how many vertices
