@@ -1,11 +1,11 @@
--- `outline::checks::grids_fit` meets its contract. Assumes nothing.
+-- `outline::refusals::grids_fit` meets its contract. Assumes nothing.
 use Prim.Native.Nat.{_+_, _*_, _/_}
 use native.Mathlib.Omega.{arith}
 use borrow.Author.Needs.{needs}
 use borrow.Author.Tests.{le-leb, lt-leb}
 use Rattle.outline.proofs.Cuts.{small-mul}
-use Rattle.outline.proofs.checks.grids_fit.Statement.{statement}
-use Rattle.outline.proofs.checks.grids_fit.Tie as tie
+use Rattle.outline.proofs.refusals.grids_fit.Statement.{statement}
+use Rattle.outline.proofs.refusals.grids_fit.Tie as tie
 
 add-if1 : tie.Need-add-if1
 add-if1 c = search needs

@@ -1,37 +1,23 @@
 -- The kept regions of a picture lie within it. kept-some: some cell has the label; kept-inside: the box is within the picture and not
--- empty.
--- How large their numbers are: groups-le, label-le, cells-le. Assumes nothing.
+-- empty. How large their numbers are: groups-le, label-le, cells-le. Assumes nothing.
 use mathlib.Core.Path.{_≡_}
-use mathlib.Core.Logic.{_⊎_, inl, inr}
-use mathlib.Core.Bool.{Bool, true, false, _&&_}
-use Prim.Native.Nat.{ℕ, zero, suc, _+_, _≤_, _<_}
+use mathlib.Core.Bool.{Bool, true, _&&_}
+use Prim.Native.Nat.{ℕ, suc, _+_, _≤_, _<_}
 use native.Mathlib.Omega.{arith}
 use lib.Dec.{eqb, leb}
 use borrow.Author.Tests.{leb-true, eqb-true}
 use Rattle.laws.specs.Plane.{Plane}
-use Rattle.laws.specs.Count.{count}
-use Rattle.laws.proofs.Bools.{which}
-use Rattle.laws.proofs.Counts.{least-le, count-most, count-no}
+use Rattle.laws.proofs.Counts.{least-le, count-most, count-some}
 use Rattle.regions.specs.Labels.{near, first?}
 use Rattle.regions.specs.Cells.{cells8, cellsOf, inkCell, cellLabel, groupsOf, groupSize}
 use Rattle.regions.specs.Kept.{place, nth, ahead, want, keptOf, keptAt, keptCount, keptLabel, keptCells}
 use Rattle.regions.specs.Boxes.{regionBox}
 use Rattle.regions.proofs.Kept.{At, kept-at}
 use Rattle.regions.proofs.Regions.{region-in}
-
--- where some are counted, there is one
-count-some : (p : ℕ → Bool) (k : ℕ) → 0 < count p k → (c : ℕ) × (c < k) × (p c ≡ true)
-unfolding count
-count-some p zero l = absurd (omega arith)
-count-some p (suc k) l = go (which (p k)) (count-some p k)
-  where
-    go : (p k ≡ true) ⊎ (p k ≡ false) → (0 < count p k → (c : ℕ) × (c < k) × (p c ≡ true)) → (c : ℕ) × (c < suc k) × (p c ≡ true)
-    go (inl e) ih = (k, omega arith, e)
-    go (inr e) ih = let r = ih (omega (arith, count-no p k e, l)) in (r .0, omega (arith, r .1), r .2)
 
 module _ (p : Plane) (w h : ℕ) where
   -- a kept region has its label in some cell
-  kept-some : (i : ℕ) → i < keptCount p w h → (d : ℕ) × (d < cellsOf w h) × (cellLabel p w h d ≡ keptLabel p w h i)
+  pub kept-some : (i : ℕ) → i < keptCount p w h → (d : ℕ) × (d < cellsOf w h) × (cellLabel p w h d ≡ keptLabel p w h i)
   unfolding keptCount keptOf keptLabel
   kept-some i l =
       let s = groupSize p w h in

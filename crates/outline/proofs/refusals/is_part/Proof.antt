@@ -1,8 +1,8 @@
--- `outline::checks::is_part` meets its contract. Assumes nothing.
+-- `outline::refusals::is_part` meets its contract. Assumes nothing.
 use native.Mathlib.Omega.{arith}
 use borrow.Author.Tests.{lt-ltb, le-ltb}
-use Rattle.outline.proofs.checks.is_part.Statement.{statement}
-use Rattle.outline.proofs.checks.is_part.Tie as tie
+use Rattle.outline.proofs.refusals.is_part.Statement.{statement}
+use Rattle.outline.proofs.refusals.is_part.Tie as tie
 
 returns : tie.Need-returns
 returns c = let a = c .before .args in rw (le-ltb (a .a) (a .e) (omega arith))
