@@ -9,9 +9,9 @@ use Prim.Native.Nat.{ℕ, suc, _+_, _-_, _*_, _/_, _≤_, _<_}
 use native.Mathlib.Nat.{sub-zero}
 use native.Mathlib.Omega.{arith}
 use lib.ListN.{length, getD, set, take, drop, length-set, length-append, length-drop, take-append-drop}
-use lib.Seq.{take-suc-set, drop-set-lt, length-take-le, drop-at, take-at, drop-drop}
+use lib.Seq.{take-suc-set, drop-set-lt, length-take-le, take-at}
 use lib.Ieee.{Float, nan}
-use Rattle.laws.proofs.Past.{drop-more}
+use Rattle.laws.proofs.Past.{drop-more, past-front}
 use Rattle.laws.proofs.Steps.{one-less, none-left}
 use Rattle.hull.specs.Points.{many}
 use Rattle.fit.specs.F32.{xOf, yOf}
@@ -160,16 +160,4 @@ module _ {n : ℕ} {kept old new : List Float} {m : ℕ} (q : KeptIn n kept old 
       length-take-le (2 * m) new (omega arith)
 
   pub kept-past : n ≤ length old → UntouchedPast n old new
-  kept-past h =
-      let f = q .few in
-      let over : n ≡ 2 * m + (n - 2 * m) = omega arith in
-      record {
-        same = kept-same h;
-        past =
-            ap (λ (k : ℕ). drop k new) over
-            ∙ sym (drop-drop (n - 2 * m) (2 * m) new)
-            ∙ ap (λ (l : List Float). drop (n - 2 * m) (drop (2 * m) l)) (q .list)
-            ∙ ap (drop (n - 2 * m)) (drop-at kept (drop (2 * m) old) (2 * m) (q .count))
-            ∙ drop-drop (n - 2 * m) (2 * m) old
-            ∙ ap (λ (k : ℕ). drop k old) (sym over);
-      }
+  kept-past h = let f = q .few in past-front n (2 * m) kept old (q .few) (omega arith) (q .count) (q .list)
