@@ -468,6 +468,42 @@ fn benched(side: u32, kind: &str) -> (Pic, Vec<P>) {
     (p, points)
 }
 
+/// What the C function of the ring door answers, and the same as the words of a trace.
+#[cfg(ours)]
+struct Told {
+    hull: usize,
+    found: bool,
+    quad: [f32; 8],
+    tried: usize,
+    scores: [f32; 256],
+    fix: [f64; 15],
+    fallback: [f64; 15],
+}
+
+#[cfg(ours)]
+impl Default for Told {
+    fn default() -> Told {
+        Told { hull: 0, found: false, quad: [0.0; 8], tried: 0, scores: [0.0; 256], fix: [0.0; 15], fallback: [0.0; 15] }
+    }
+}
+
+#[cfg(ours)]
+impl Told {
+    fn words(&self) -> Vec<u32> {
+        let mut o = vec![0, self.hull as u32, self.found as u32];
+        o.extend(self.quad.map(w32));
+        for f in [&self.fix, &self.fallback] {
+            o.extend([(f[0] != 0.0) as u32, f[0] as u32, w32(f[1] as f32), f[2] as u32, f[3] as u32]);
+            o.extend(f[4..].iter().flat_map(|&x| w64(x)));
+        }
+        o.push(self.tried as u32);
+        for s in self.scores.chunks_exact(4).take(self.tried) {
+            o.extend([s[0] as u32, w32(s[1]), s[2] as u32, s[3] as u32]);
+        }
+        o
+    }
+}
+
 /// `attempt` on both sides by turns, the least of several rounds: milliseconds and their ratio.
 #[cfg(ours)]
 pub fn bench() {
@@ -476,7 +512,8 @@ pub fn bench() {
     #[rustfmt::skip]
     unsafe extern "C" {
         fn lcr_attempt(g: *const u8, n: usize, w: usize, h: usize, p: *const f32, m: usize, most: u8, a: *mut f32, al: usize,
-            b: *mut f32, bl: usize, c: *mut f32, cl: usize, out: *mut u32, ol: usize) -> usize;
+            b: *mut f32, bl: usize, c: *mut f32, cl: usize, hull: *mut usize, found: *mut bool, quad: *mut f32,
+            tried: *mut usize, scores: *mut f32, fix: *mut f64, fallback: *mut f64) -> u32;
     }
     let (mut all, mut sums) = (Vec::new(), [0f64; 2]);
     for side in [256u32, 1024, 4096] {
@@ -484,7 +521,7 @@ pub fn bench() {
             let (p, points) = benched(side, kind);
             let nums: Vec<f32> = points.iter().flat_map(|p| [p.0, p.1]).collect();
             let n = nums.len();
-            let (mut a, mut b, mut c, mut out) = (vec![0f32; n], vec![0f32; n], vec![0f32; n], vec![0u32; 512]);
+            let (mut a, mut b, mut c, mut o) = (vec![0f32; n], vec![0f32; n], vec![0f32; n], Told::default());
             let (mut rust, mut ours, mut t) = (f64::MAX, f64::MAX, None);
             let from = Instant::now();
             let mut rounds = 0;
@@ -494,13 +531,14 @@ pub fn bench() {
                 rust = rust.min(s.elapsed().as_secs_f64() * 1e3);
                 let s = Instant::now();
                 let (x, y, z) = (a.as_mut_ptr(), b.as_mut_ptr(), c.as_mut_ptr());
-                black_box(unsafe { lcr_attempt(p.g.as_ptr(), p.g.len(), p.w as usize, p.h as usize, nums.as_ptr(), n, 64, x, n, y, n, z, n, out.as_mut_ptr(), 512) });
+                black_box(unsafe { lcr_attempt(p.g.as_ptr(), p.g.len(), p.w as usize, p.h as usize, nums.as_ptr(), n, 64, x, n, y, n, z, n,
+                    &mut o.hull, &mut o.found, o.quad.as_mut_ptr(), &mut o.tried, o.scores.as_mut_ptr(), o.fix.as_mut_ptr(), o.fallback.as_mut_ptr()) });
                 ours = ours.min(s.elapsed().as_secs_f64() * 1e3);
                 rounds += 1;
             }
             let t = t.unwrap();
             let want = trace_words(&t);
-            assert_eq!(out[..want.len()], want[..], "{side} {kind}");
+            assert_eq!(o.words(), want, "{side} {kind}");
             sums[0] += rust;
             sums[1] += ours;
             all.push(ours / rust);

@@ -424,9 +424,9 @@ pub fn bench() {
     use std::hint::black_box;
     use std::time::Instant;
     unsafe extern "C" {
-        fn lcr_refine_quad(p: *const f32, n: usize, q: *mut f32, m: usize, buf: *mut f32, k: usize);
+        fn lcr_refine_quad(p: *const f32, n: usize, q: *mut f32, m: usize, buf: *mut f32, k: usize) -> u32;
         fn lcr_edge_quad(p: *const f32, n: usize, q: *mut f32, m: usize, cand: *mut f32, c: usize, buf: *mut f32, k: usize) -> u32;
-        fn lcr_estimate_lens(p: *const f32, n: usize, q: *mut f32, m: usize, straight: *mut f32, c: usize, buf: *mut f32, k: usize);
+        fn lcr_estimate_lens(p: *const f32, n: usize, q: *mut f32, m: usize, straight: *mut f32, c: usize, buf: *mut f32, k: usize) -> u32;
     }
     let mut r = Rng(1);
     let mut rings = Vec::new();
@@ -458,12 +458,12 @@ pub fn bench() {
             timed(2, 0, &mut || { black_box(ring::estimate_lens(&g.points, Some(*q), g.centre)); });
             let (p, n) = (list.as_ptr(), list.len());
             let mut a: Vec<f32> = numbers(q);
-            timed(0, 1, &mut || unsafe { lcr_refine_quad(p, n, a.as_mut_ptr(), 8, x.as_mut_ptr(), x.len()) });
+            timed(0, 1, &mut || unsafe { black_box(lcr_refine_quad(p, n, a.as_mut_ptr(), 8, x.as_mut_ptr(), x.len())); });
             let mut a: Vec<f32> = numbers(q);
             timed(1, 1, &mut || unsafe { black_box(lcr_edge_quad(p, n, a.as_mut_ptr(), 8, x.as_mut_ptr(), x.len(), y.as_mut_ptr(), y.len())); });
             let mut a: Vec<f32> = numbers(q);
             a.extend([g.centre.0, g.centre.1, 0.0]);
-            timed(2, 1, &mut || unsafe { lcr_estimate_lens(p, n, a.as_mut_ptr(), 11, x.as_mut_ptr(), x.len(), y.as_mut_ptr(), y.len()) });
+            timed(2, 1, &mut || unsafe { black_box(lcr_estimate_lens(p, n, a.as_mut_ptr(), 11, x.as_mut_ptr(), x.len(), y.as_mut_ptr(), y.len())); });
         }
         for k in 0..3 {
             for s in 0..2 {

@@ -155,7 +155,7 @@ fn random(g: &mut Rng) -> Call {
 #[cfg(ours)]
 unsafe extern "C" {
     fn lcr_classify(version: u8, lumas: *const f32, n: usize, marks: *mut bool, m: usize) -> u32;
-    fn lcr_correlate(version: u8, marks: *const bool, n: usize, score: *mut f32, corner: *mut usize, reversed: *mut bool) -> u32;
+    fn lcr_correlate(version: u8, marks: *const bool, n: usize, score: *mut f32, corner: *mut usize, reversed: *mut bool, counts: *mut u16) -> u32;
 }
 
 /// Both sides on one ring of each of the 64 versions, best of 30 runs by turns: milliseconds and their ratio.
@@ -186,10 +186,10 @@ pub fn bench() {
             note(2, t);
             let t = Instant::now();
             for m in &marks {
-                let (mut s, mut r, mut b) = (0.0, 0, false);
+                let (mut s, mut r, mut b, mut c) = (0.0, 0, false, [0u16; 8]);
                 let v = ((m.len() - 88) / 16) as u8;
-                assert_eq!(unsafe { lcr_correlate(v, m.as_ptr(), m.len(), &mut s, &mut r, &mut b) }, 0);
-                black_box((s, r, b));
+                assert_eq!(unsafe { lcr_correlate(v, m.as_ptr(), m.len(), &mut s, &mut r, &mut b, c.as_mut_ptr()) }, 0);
+                black_box((s, r, b, c));
             }
             note(3, t);
         }

@@ -19,9 +19,9 @@ mod ours {
     unsafe extern "C" {
         fn lcr_outline(
             s: *const u8, n: usize, levels: *const u8, g: usize, labels: *const u32, l: usize, want: u32, w: usize, h: usize,
-            x0: usize, y0: usize, x1: usize, y1: usize, out: *mut f32, m: usize,
-        ) -> usize;
-        fn lcr_hull(p: *const f32, n: usize, out: *mut f32, m: usize) -> usize;
+            x0: usize, y0: usize, x1: usize, y1: usize, out: *mut f32, m: usize, points: *mut usize,
+        ) -> u32;
+        fn lcr_convex_hull(p: *const f32, n: usize, out: *mut f32, m: usize, vertices: *mut usize) -> u32;
         fn lcr_quad(p: *const f32, n: usize, out: *mut f32) -> u32;
     }
 
@@ -93,13 +93,15 @@ mod ours {
         let m = 4 * ((b.2 - b.0) + (b.3 - b.1)) as usize;
         let mut out = vec![0f32; m];
         let points = ring::boundary_points(ink, label, b);
+        let mut many = 0usize;
         let mut call = || unsafe {
-            lcr_outline(
+            let no = lcr_outline(
                 p.g.as_ptr(), p.g.len(), ink.threshold.as_ptr(), ink.threshold.len(), ink.label.as_ptr(), ink.label.len(), want,
-                p.w as usize, p.h as usize, b.0 as usize, b.1 as usize, b.2 as usize, b.3 as usize, out.as_mut_ptr(), m,
-            )
+                p.w as usize, p.h as usize, b.0 as usize, b.1 as usize, b.2 as usize, b.3 as usize, out.as_mut_ptr(), m, &mut many,
+            );
+            (no, many)
         };
-        assert_eq!(call(), points.len());
+        assert_eq!(call(), (0, points.len()));
         let (rust, finder) = both(|| { black_box(ring::boundary_points(ink, label, b)); }, || { black_box(call()); });
         let same = points.iter().enumerate().all(|(k, q)| out[2 * k] == q.0 && out[2 * k + 1] == q.1);
         assert!(same);
@@ -134,14 +136,14 @@ mod ours {
                 (((512.0 + 500.0 * a.cos()) * 2.0).round() / 2.0, ((512.0 + 400.0 * a.sin()) * 2.0).round() / 2.0)
             }).collect();
             let list: Vec<f32> = points.iter().flat_map(|q| [q.0, q.1]).collect();
-            let mut out = vec![0f32; list.len()];
+            let (mut out, mut many) = (vec![0f32; list.len()], 0usize);
             let (a, b) = both(
                 || { black_box(ring::convex_hull(&points)); },
-                || unsafe { black_box(lcr_hull(list.as_ptr(), list.len(), out.as_mut_ptr(), out.len())); },
+                || unsafe { black_box(lcr_convex_hull(list.as_ptr(), list.len(), out.as_mut_ptr(), out.len(), &mut many)); },
             );
             let hull = ring::convex_hull(&points);
             let vertices: Vec<f32> = hull.iter().flat_map(|q| [q.0, q.1]).collect();
-            assert_eq!(out[..vertices.len()], vertices[..]);
+            assert_eq!(out[..2 * many], vertices[..]);
             println!("hull {n:>5} points {:>5} vertices {:>10.1} {:>10.1} {:>6.3}", hull.len(), a * 1e3, b * 1e3, b / a);
             let mut q = [0f32; 8];
             let (a, b) = both(

@@ -173,7 +173,7 @@ fn random(r: &mut Rng) -> Call {
 unsafe extern "C" {
     #[allow(clippy::too_many_arguments)]
     fn lcr_picture(
-        s: *const u8, n: usize, w: usize, h: usize, grid: *mut u8, g: usize, labels: *mut u32, l: usize, stack: *mut u32, k: usize, out: *mut u32, m: usize,
+        s: *const u8, n: usize, w: usize, h: usize, grid: *mut u8, g: usize, labels: *mut u32, l: usize, stack: *mut u32, k: usize, regions: *mut u32,
     ) -> u32;
 }
 
@@ -196,7 +196,7 @@ impl Lent {
         unsafe {
             lcr_picture(
                 p.g.as_ptr(), p.g.len(), p.w as usize, p.h as usize, self.grid.as_mut_ptr(), self.grid.len(), self.labels.as_mut_ptr(), self.labels.len(),
-                self.stack.as_mut_ptr(), self.stack.len(), self.out.as_mut_ptr(), self.out.len(),
+                self.stack.as_mut_ptr(), self.stack.len(), self.out.as_mut_ptr(),
             )
         }
     }
