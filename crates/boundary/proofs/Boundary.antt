@@ -24,6 +24,7 @@ use Rattle.boundary.specs.Runs.{runStart, runEnd, edges}
 use Rattle.boundary.specs.Boundary.{joined, across, down, rowPoints, columnPoints, rowsFrom, columnsFrom, boundary}
 use Rattle.hull.specs.Points.{ptOf, ptsOf}
 use Rattle.whole.specs.Moves.{often, pointOf}
+use Rattle.boundary.proofs.Joined.{joined-ext}
 use Rattle.boundary.proofs.Runs.{start-mirror, end-mirror, both-ends, start-le, run-end-le, edges-ext}
 
 -- ---- how often
@@ -233,21 +234,22 @@ module _ (q : Pt) (k w h : ℕ) (t u : ℕ → ℕ → Bool) (b : Box) (in′ : 
           twice w X l = omega arith
 
 -- ---- every move
-boundary-ext : (q : Pt) (k w h : ℕ) (t u : ℕ → ℕ → Bool) (b : Box) → Within b w h → ((x y : ℕ) → x < w → y < h → u x y ≡ t x y)
-    → often q (ptsOf (boundary k u b)) ≡ often q (ptsOf (boundary k t b))
-unfolding rowPoints columnPoints
-boundary-ext q k w h t u b in′ same =
-    often-boundary q k u b
-    ∙ ap₂ (λ (x y : ℕ). x + y)
-    (fold-ext _+_ 0 (b .y1 - b .y0) _ (λ j. often q (ptsOf (rowPoints k t (b .x0) (b .x1 - b .x0) (b .y0 + j))))
-    (λ j lj. ap (λ (E : List ℕ). often q (ptsOf (map (across (2 * (b .y0 + j) + 1)) E)))
+-- tests that agree within the picture give the same points
+pub boundary-same : (k w h : ℕ) (t u : ℕ → ℕ → Bool) (b : Box) → Within b w h → ((x y : ℕ) → x < w → y < h → u x y ≡ t x y)
+    → boundary k u b ≡ boundary k t b
+unfolding boundary rowsFrom columnsFrom rowPoints columnPoints
+boundary-same k w h t u b in′ same =
+    ap₂ (λ (l m : List (ℕ × ℕ)). l ++ m)
+    (joined-ext (b .y1 - b .y0) (λ j. rowPoints k u (b .x0) (b .x1 - b .x0) (b .y0 + j))
+    (λ j. rowPoints k t (b .x0) (b .x1 - b .x0) (b .y0 + j))
+    (λ j lj. ap (map (across (2 * (b .y0 + j) + 1)))
     (edges-ext k (b .x1 - b .x0) (λ i. u (b .x0 + i) (b .y0 + j)) (λ i. t (b .x0 + i) (b .y0 + j)) (b .x0)
     (λ i li. same (b .x0 + i) (b .y0 + j) (in-s (b .x0) (b .x1) w i (in′ .wide) li) (in-s (b .y0) (b .y1) h j (in′ .high) lj)))))
-    (fold-ext _+_ 0 (b .x1 - b .x0) _ (λ i. often q (ptsOf (columnPoints k t (b .y0) (b .y1 - b .y0) (b .x0 + i))))
-    (λ i li. ap (λ (E : List ℕ). often q (ptsOf (map (down (2 * (b .x0 + i) + 1)) E)))
+    (joined-ext (b .x1 - b .x0) (λ i. columnPoints k u (b .y0) (b .y1 - b .y0) (b .x0 + i))
+    (λ i. columnPoints k t (b .y0) (b .y1 - b .y0) (b .x0 + i))
+    (λ i li. ap (map (down (2 * (b .x0 + i) + 1)))
     (edges-ext k (b .y1 - b .y0) (λ j. u (b .x0 + i) (b .y0 + j)) (λ j. t (b .x0 + i) (b .y0 + j)) (b .y0)
     (λ j lj. same (b .x0 + i) (b .y0 + j) (in-s (b .x0) (b .x1) w i (in′ .wide) li) (in-s (b .y0) (b .y1) h j (in′ .high) lj)))))
-    ∙ sym (often-boundary q k t b)
   where
     in-s : (y0 y1 h j : ℕ) → y1 ≤ h → j < y1 - y0 → y0 + j < h
     in-s y0 y1 h j a c = omega arith
@@ -264,7 +266,7 @@ pub boundary-move : (m : Move) (w h : ℕ) (q : Pt) (k : ℕ) (t u : ℕ → ℕ
     → ((x y : ℕ) → x < w → y < h → u (placeOf m w h x y .0) (placeOf m w h x y .1) ≡ t x y)
     → often (pointOf m w h q) (ptsOf (boundary k u (boxOf m w h b))) ≡ often q (ptsOf (boundary k t b))
 unfolding boxOf placeOf pointOf boxM boxT quarter mirror swap transposed
-boundary-move still w h q k t u b i same = boundary-ext q k w h t u b i same
+boundary-move still w h q k t u b i same = ap (λ (l : List (ℕ × ℕ)). often q (ptsOf l)) (boundary-same k w h t u b i same)
 boundary-move flipped w h q k t u b i same =
     boundary-mirror q k w h t u b i (λ x y lx ly. ap (λ (z : ℕ). u z y) (sym (twice w x lx)) ∙ same (w - 1 - x) y (omega arith) ly)
   where

@@ -1,4 +1,5 @@
 pub mod Runs
+pub mod Joined
 pub mod Boundary
 pub mod Points
 pub mod Outlines

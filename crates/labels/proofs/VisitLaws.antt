@@ -26,6 +26,7 @@ use Rattle.labels.specs.Visits.{
   Shut,
   Step,
   at-or,
+  begin,
   fills,
   full-or,
   marks,
@@ -198,6 +199,29 @@ flow-turn {near} {v} {n} {k₀} {k} {k′} {l₀} {st₀} {l} {st} f r h t e s =
   where
     back : k ≡ k - 1 + 1
     back = omega arith
+
+pub flow-begin : {near : ℕ → ℕ → Bool} {v n k : ℕ} {l st : List ℕ} → Safe l st k → length l ≡ n → Flow near v n l st k l st k
+flow-begin s e = record { done = begin; safe = s; size = e; same-stack = refl }
+
+-- each turn leaves less: places on the stack and marks
+pub flow-less : (near : ℕ → ℕ → Bool) {v k k′ : ℕ} {l st l′ st′ : List ℕ} → (v ≡ MARK → ⊥) → 0 < k
+    → Run (λ j. near (getD st (k - 1) 0) j ≡ true) v l st (k - 1) l′ st′ k′ → k′ + marks l′ < k + marks l
+flow-less near {v} {k} {st = st} f h t = omega (arith, run-sum v f (λ j. near (getD st (k - 1) 0) j ≡ true) t)
+
+-- a stack that was found too short is so from the start
+pub flow-full : {near : ℕ → ℕ → Bool} {v n k₀ k : ℕ} {l₀ st₀ l st : List ℕ} → Flow near v n l₀ st₀ k₀ l st k → length st < length l
+    → length st₀ < n
+flow-full f t = omega (arith, t, f .size, f .same-stack)
+
+pub flow-end : {near : ℕ → ℕ → Bool} {v n s k₀ k : ℕ} {l st l₀ st₀ l′ st′ : List ℕ} → Step v s l st 0 l₀ st₀ k₀
+    → Flow near v n l₀ st₀ k₀ l′ st′ k → k ≡ 0 → Flooded near v s l st l′ st′
+flow-end {near} {v} {k₀ = k₀} {l₀ = l₀} {st₀ = st₀} {l′ = l′} {st′ = st′} e f z = record {
+  mid = l₀;
+  mid-stack = st₀;
+  depth = k₀;
+  entry = e;
+  rest = subst (λ (x : ℕ). Emptied near v l₀ st₀ k₀ l′ st′ x) z (f .done);
+}
 
 -- ---- a stack that may be too short
 pub full-short : (l st : List ℕ) (k j : ℕ) → Safe l st k → getD l j 0 ≡ MARK → k ≡ length st → length st < length l

@@ -29,10 +29,8 @@ fn visit(labels: &mut [u32], stack: &mut [u32], depth: usize, j: usize, v: u32) 
     requires { ⌜ Safe (now labels) (now stack) depth ⌝ }
     requires { ⌜ (j < length (now labels)) × (length (now labels) ≤ 262144) ⌝ }
     ensures { λ r. ⌜
-        Or
-        (λ k.
-        Step v j (now (labels .entry)) (now (stack .entry)) depth (now (labels .exit))
-        (now (stack .exit)) k)
+        Or (Step v j (now (labels .entry)) (now (stack .entry)) depth (now (labels .exit))
+        (now (stack .exit)))
         (now (labels .entry)) (now (stack .entry)) r ⌝ }
 {
     if labels[j] != MARK {
@@ -58,10 +56,8 @@ fn visit_row(
     requires { ⌜ Safe (now labels) (now stack) depth ⌝ }
     requires { ⌜ (b ≤ length (now labels)) × (length (now labels) ≤ 262144) × (v < MARK) ⌝ }
     ensures { λ r. ⌜
-        Or
-        (λ k.
-        Rowed a b v (now (labels .entry)) (now (stack .entry)) depth (now (labels .exit))
-        (now (stack .exit)) k)
+        Or (Rowed a b v (now (labels .entry)) (now (stack .entry)) depth (now (labels .exit))
+        (now (stack .exit)))
         (now (labels .entry)) (now (stack .entry)) r ⌝ }
 {
     let mut k = depth;
@@ -94,10 +90,8 @@ fn visit_line(
         × (length (now labels) ≤ 262144)
         × (v < MARK) ⌝ }
     ensures { λ r. ⌜
-        Or
-        (λ k.
-        Rowed (g * w + x0) (g * w + x1) v (now (labels .entry)) (now (stack .entry)) depth
-        (now (labels .exit)) (now (stack .exit)) k)
+        Or (Rowed (g * w + x0) (g * w + x1) v (now (labels .entry)) (now (stack .entry)) depth
+        (now (labels .exit)) (now (stack .exit)))
         (now (labels .entry)) (now (stack .entry)) r ⌝ }
 {
     visit_row(labels, stack, depth, g * w + x0, g * w + x1, v)
@@ -136,10 +130,8 @@ fn visit_near(
         × (0 < w)
         × (v < MARK) ⌝ }
     ensures { λ r. ⌜
-        Or
-        (λ k.
-        Neared w i v (now (labels .entry)) (now (stack .entry)) depth (now (labels .exit))
-        (now (stack .exit)) k)
+        Or (Neared w i v (now (labels .entry)) (now (stack .entry)) depth (now (labels .exit))
+        (now (stack .exit)))
         (now (labels .entry)) (now (stack .entry)) r ⌝ }
 {
     let x = i % w;

@@ -4,7 +4,5 @@ pub mod Outlines
 pub mod Pieces
 pub mod Lengths
 pub mod Records
-pub mod Inside
-pub mod Same
 pub mod Pictures
 pub mod Texts

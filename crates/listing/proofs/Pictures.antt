@@ -1,9 +1,6 @@
 -- The doors on a picture with sides up to 160. Cells: cells-few. The picture door: picture-passes, mapped. Regions: kept-four, listed,
--- tray-region. The
--- outline door on a kept region: points-below, points-few, region-lines-short, never-refused, points-many, points-room, points-part,
--- part-outlined,
--- region-stored.
--- Assumes nothing.
+-- tray-region. The outline door on a kept region: points-below, points-few, region-lines-short, never-refused, points-many, points-room,
+-- points-part; its numbers: part-outlined, region-stored. Assumes nothing.
 use mathlib.Core.Path.{_≡_, refl, sym, ap, ap₂, _∙_, subst}
 use mathlib.Core.Bool.{Bool, true, false, cond}
 use mathlib.Core.List.{List, [], _∷_, _++_, List·Memᴰ}
@@ -26,11 +23,10 @@ use Rattle.checks.specs.Picture.{isSide, checkPicture}
 use Rattle.regions.specs.Door.{checkGrids, noRegion, region, regionAt, keptRegions, answerBy, levelsAfter}
 use Rattle.regions.specs.Door.{labelsAfter}
 use Rattle.regions.specs.declared.answer.Region.{Region}
-use Rattle.listing.proofs.Inside.{kept-inside, groups-le, label-le, cells-le}
+use Rattle.regions.proofs.Inside.{kept-inside, groups-le, label-le, cells-le}
 use Rattle.hull.specs.Points.{floatsOf, laid}
 use Rattle.boundary.specs.Boundary.{memberOf, memberAt, isMember, joined, rowPoints, columnPoints, rowsFrom, columnsFrom, boundary}
-use Rattle.boundary.proofs.Boundary.{Within}
-use Rattle.listing.proofs.Same.{boundary-same}
+use Rattle.boundary.proofs.Boundary.{Within, boundary-same}
 use Rattle.boundary.proofs.Members.{member-lists}
 use Rattle.boundary.proofs.Outlines.{boundary-within}
 use Rattle.outline.specs.Door.{isPart, gridsFit, checkOutline, boxAt, doorPoints, answered, listAfter}
@@ -39,10 +35,11 @@ use Rattle.outline.specs.declared.Answer.the-variants.{Points, Refused}
 use Rattle.outline.proofs.Writes.{length-floats}
 use Rattle.outline.proofs.Doors.{points-le}
 use Rattle.listing.specs.Text.{lineOf, regionWord}
-use Rattle.listing.specs.Listing.{outlineLines, regionLines}
-use Rattle.listing.specs.Put.{Stored, Outlined, linesBy}
+use Rattle.listing.specs.Listing.{outlineLines, regionPoints, regionLines}
+use Rattle.laws.specs.Lent.{Stored}
+use Rattle.listing.specs.Put.{Outlined, linesBy}
 use Rattle.listing.specs.Inner.{TrayPicture, Mapped, TrayRegion}
-use Rattle.listing.proofs.Stores.{stored-append, stored-ext}
+use Rattle.laws.proofs.Stores.{stored-append, stored-ext}
 use Rattle.listing.proofs.Numbers.{line-short}
 use Rattle.listing.proofs.Outlines.{near-floats, lines-are}
 use Rattle.listing.proofs.Pieces.{region-short}
@@ -143,7 +140,7 @@ module _ (s : List ℕ) (w h : ℕ) (t : TrayPicture s w h) where
 
     -- the points of the region
     abbrev points : List (ℕ × ℕ)
-    points = boundary 4 (isMember p w h (r .label)) box
+    points = regionPoints p w h r
 
     pub points-below : Below points
     points-below q i =
@@ -217,26 +214,27 @@ module _ (s : List ℕ) (w h : ℕ) (t : TrayPicture s w h) where
         points-room n z = omega (arith, points-few, points-many n z)
 
         -- the list holds them
-        module _ (old last : List Float) (f : last ≡ listAfter number listed-points old) (n : ℕ) (z : answer ≡ Points n) where
-          pub points-part : take (2 * n) last ≡ floatsOf points
-          points-part =
-              let k : length (floatsOf points) ≡ 2 * n = omega (arith, length-floats points, points-many n z) in
-              ap (λ (l : List Float). take (2 * n) l)
-              (f ∙ ap (λ (q : ℕ). listAfter q listed-points old) outline-passes ∙ ap (λ (l : List (ℕ × ℕ)). listAfter 0 l old) door-points
-              ∙ laid-points points old)
-              ∙ take-at (floatsOf points) (drop (length (floatsOf points)) old) (2 * n) k
+        pub points-part : (old last : List Float) → last ≡ listAfter number listed-points old → (n : ℕ) → answer ≡ Points n
+            → take (2 * n) last ≡ floatsOf points
+        points-part old last f n z =
+            let k : length (floatsOf points) ≡ 2 * n = omega (arith, length-floats points, points-many n z) in
+            ap (λ (l : List Float). take (2 * n) l)
+            (f ∙ ap (λ (q : ℕ). listAfter q listed-points old) outline-passes ∙ ap (λ (l : List (ℕ × ℕ)). listAfter 0 l old) door-points
+            ∙ laid-points points old)
+            ∙ take-at (floatsOf points) (drop (length (floatsOf points)) old) (2 * n) k
 
-          pub part-outlined : Outlined (take (2 * n) last)
-          part-outlined = subst (λ (l : List Float). Outlined l) (sym points-part) (record {
-            few = omega (arith, length-floats points, points-few);
-            near = near-floats points points-below;
-          })
+    -- ---- numbers that are those of its points
+    module _ (part : List Float) (e : part ≡ floatsOf points) where
+      pub part-outlined : Outlined part
+      part-outlined = subst (λ (l : List Float). Outlined l) (sym e) (record {
+        few = omega (arith, length-floats points, points-few);
+        near = near-floats points points-below;
+      })
 
-          pub region-stored : {at next k : ℕ} {l l′ l″ : List ℕ}
-              → Stored at (lineOf regionWord (r .label ∷ r .cells ∷ r .x0 ∷ r .y0 ∷ r .x1 ∷ r .y1 ∷ [])) l l′ next
-              → Stored next (linesBy (take (2 * n) last)) l′ l″ k → Stored at (regionLines p w h r) l l″ k
-          unfolding regionLines
-          region-stored v u =
-              stored-append v
-              (stored-ext (linesBy (take (2 * n) last)) (outlineLines points)
-              (ap linesBy points-part ∙ lines-are points (below-small points points-below)) u)
+      pub region-stored : {at next k : ℕ} {l l′ l″ : List ℕ}
+          → Stored at (lineOf regionWord (r .label ∷ r .cells ∷ r .x0 ∷ r .y0 ∷ r .x1 ∷ r .y1 ∷ [])) l l′ next
+          → Stored next (linesBy part) l′ l″ k → Stored at (regionLines p w h r) l l″ k
+      unfolding regionLines
+      region-stored v u =
+          stored-append v
+          (stored-ext (linesBy part) (outlineLines points) (ap linesBy e ∙ lines-are points (below-small points points-below)) u)

@@ -17,9 +17,10 @@ use Rattle.hull.specs.declared.points.Quad.{Quad}
 use Rattle.hull.specs.declared.points.Corners.{Corners}
 use Rattle.hull.specs.declared.points.Corners.the-variants.{Found, NoQuad}
 use Rattle.listing.specs.Text.{spaced, lineOf, outlineWord, quadWord, noneWord}
-use Rattle.listing.specs.Put.{Stored, Short, Near, doubledOf, cornersLine, linesBy}
+use Rattle.laws.specs.Lent.{Stored}
+use Rattle.listing.specs.Put.{Short, Near, doubledOf, cornersLine, linesBy}
 use Rattle.listing.specs.Inner.{TrayRegion}
-use Rattle.listing.proofs.Stores.{stored-append, stored-ext, stored-length}
+use Rattle.laws.proofs.Stores.{stored-append, stored-ext, stored-length}
 use Rattle.listing.proofs.Numbers.{spaced-short, line-short}
 use Rattle.listing.proofs.Outlines.{near-points, near-doubled}
 

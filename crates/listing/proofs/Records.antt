@@ -1,7 +1,6 @@
--- Laws of the record. Its checks one by one: side-in, side-of, refuse-short to accept; small-area, area-small. What an accepted record
--- is:
--- Accepted with accepted; its pixels, pixels-are; its sides and its picture, wide-is, high-is, long-is, tray-picture. Assumes nothing.
-use mathlib.Core.Path.{_≡_, refl, sym, ap, ap₂, _∙_, subst}
+-- Laws of the record. Its checks one by one: side-in, side-of, refuse-short to check-rest; small-area, area-small. What an accepted record
+-- is: Accepted with accepted; its pixels, pixels-are; its sides and its picture, wide-is, high-is, long-is, tray-picture. Assumes nothing.
+use mathlib.Core.Path.{_≡_, sym, ap, ap₂, _∙_, subst}
 use mathlib.Core.Bool.{Bool, true, false}
 use mathlib.Core.List.{List}
 use Prim.Native.Nat.{ℕ, _+_, _-_, _*_, _≤_, _<_}
@@ -10,9 +9,9 @@ use native.Mathlib.Omega.{arith}
 use lib.Dec.{leb, eqb}
 use lib.ListN.{length, take, drop, length-take, length-drop}
 use borrow.Author.Tests.{leb-true, le-leb, lt-leb, eq-eqb, ne-eqb}
-use Rattle.laws.specs.Check.{orRefuse}
 use Rattle.laws.proofs.Bools.{and-left, and-right}
-use Rattle.listing.specs.Listing.{pairAt, fourAt, widthOf, heightOf, pixelsOf, isTraySide, checkRecord}
+use Rattle.outline.proofs.Doors.{check-step}
+use Rattle.listing.specs.Listing.{pairAt, fourAt, widthOf, heightOf, pixelsOf, isTraySide, checkPixels, checkRecord}
 use Rattle.listing.specs.Inner.{TrayPicture}
 
 pub side-in : (n : ℕ) → isTraySide n ≡ true → (1 ≤ n) × (n ≤ 160)
@@ -39,32 +38,9 @@ module _ (s : List ℕ) where
         pub refuse-high : isTraySide (heightOf s) ≡ false → 13 ≡ checkRecord s
         refuse-high e = rw (le-leb 10 (length s) a, eq-eqb (pairAt s 4) 1 k, w, e)
 
-        module _ (h : isTraySide (heightOf s) ≡ true) where
-          pub refuse-length : (fourAt s 0 ≡ 6 + widthOf s * heightOf s → ⊥) → 13 ≡ checkRecord s
-          refuse-length n = rw (le-leb 10 (length s) a, eq-eqb (pairAt s 4) 1 k, w, h, ne-eqb (fourAt s 0) (6 + widthOf s * heightOf s) n)
-
-          module _ (n : fourAt s 0 ≡ 6 + widthOf s * heightOf s) where
-            pub refuse-bytes : length s < 10 + widthOf s * heightOf s → 13 ≡ checkRecord s
-            refuse-bytes l =
-                rw (
-                  le-leb 10 (length s) a,
-                  eq-eqb (pairAt s 4) 1 k,
-                  w,
-                  h,
-                  eq-eqb (fourAt s 0) (6 + widthOf s * heightOf s) n,
-                  lt-leb (10 + widthOf s * heightOf s) (length s) l,
-                )
-
-            pub accept : 10 + widthOf s * heightOf s ≤ length s → 0 ≡ checkRecord s
-            accept l =
-                rw (
-                  le-leb 10 (length s) a,
-                  eq-eqb (pairAt s 4) 1 k,
-                  w,
-                  h,
-                  eq-eqb (fourAt s 0) (6 + widthOf s * heightOf s) n,
-                  le-leb (10 + widthOf s * heightOf s) (length s) l,
-                )
+        -- the head passes: what follows counts
+        pub check-rest : isTraySide (heightOf s) ≡ true → checkPixels s (widthOf s * heightOf s) ≡ checkRecord s
+        check-rest h = rw (le-leb 10 (length s) a, eq-eqb (pairAt s 4) 1 k, w, h)
 
 -- ---- an accepted record
 pub record Accepted (s : List ℕ) : Type 0 where
@@ -74,21 +50,14 @@ pub record Accepted (s : List ℕ) : Type 0 where
   pub high : heightOf s ≤ 160
   pub long : 10 + widthOf s * heightOf s ≤ length s
 
-step : (b : Bool) (n rest : ℕ) → 0 < n → orRefuse b n rest ≡ 0 → (b ≡ true) × (rest ≡ 0)
-step true n rest l e = (refl, e)
-step false n rest l e = absurd (none n l e)
-  where
-    none : (n : ℕ) → 0 < n → n ≡ 0 → ⊥
-    none n l e = omega arith
-
 pub accepted : (s : List ℕ) → checkRecord s ≡ 0 → Accepted s
 accepted s e =
-    let a = step (leb 10 (length s)) 13 _ (lib.Dec.lit< tt) e in
-    let b = step (eqb (pairAt s 4) 1) 13 _ (lib.Dec.lit< tt) (a .1) in
-    let c = step (isTraySide (widthOf s)) 13 _ (lib.Dec.lit< tt) (b .1) in
-    let d = step (isTraySide (heightOf s)) 13 _ (lib.Dec.lit< tt) (c .1) in
-    let f = step (eqb (fourAt s 0) (6 + widthOf s * heightOf s)) 13 _ (lib.Dec.lit< tt) (d .1) in
-    let g = step (leb (10 + widthOf s * heightOf s) (length s)) 13 0 (lib.Dec.lit< tt) (f .1) in
+    let a = check-step (leb 10 (length s)) 13 _ (lib.Dec.lit< tt) e in
+    let b = check-step (eqb (pairAt s 4) 1) 13 _ (lib.Dec.lit< tt) (a .1) in
+    let c = check-step (isTraySide (widthOf s)) 13 _ (lib.Dec.lit< tt) (b .1) in
+    let d = check-step (isTraySide (heightOf s)) 13 _ (lib.Dec.lit< tt) (c .1) in
+    let f = check-step (eqb (fourAt s 0) (6 + widthOf s * heightOf s)) 13 _ (lib.Dec.lit< tt) (d .1) in
+    let g = check-step (leb (10 + widthOf s * heightOf s) (length s)) 13 0 (lib.Dec.lit< tt) (f .1) in
     record {
       someWide = side-in (widthOf s) (c .0) .0;
       wide = side-in (widthOf s) (c .0) .1;

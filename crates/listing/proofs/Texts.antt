@@ -18,17 +18,17 @@ use Rattle.regions.specs.declared.answer.Region.{Region}
 use Rattle.regions.specs.declared.answer.Kept.{Kept}
 use Rattle.regions.specs.declared.answer.PictureAnswer.{PictureAnswer}
 use Rattle.boundary.specs.Boundary.{joined}
-use Rattle.outline.proofs.Writes.{joined-more}
+use Rattle.boundary.proofs.Joined.{joined-more}
 use Rattle.listing.specs.Text.{lineOf, refusedWord, regionsWord}
 use Rattle.listing.specs.Listing.{pairAt, fourAt, widthOf, heightOf, pixelsOf, isTraySide, checkRecord, regionLines, firstLines}
 use Rattle.listing.specs.Listing.{pictureText, textBy, textOf, filled}
-use Rattle.listing.specs.Put.{Stored}
+use Rattle.laws.specs.Lent.{Stored}
 use Rattle.listing.specs.Inner.{TrayPicture, TrayRegion}
-use Rattle.listing.proofs.Stores.{stored-none, stored-append, stored-ext, stored-length, stored-laid}
+use Rattle.laws.proofs.Stores.{stored-none, stored-append, stored-ext, stored-length, stored-laid}
 use Rattle.listing.proofs.Numbers.{line-short}
 use Rattle.listing.proofs.Pieces.{one-short, two-short}
 use Rattle.listing.proofs.Records.{pixels-are}
-use Rattle.listing.proofs.Inside.{groups-le}
+use Rattle.regions.proofs.Inside.{groups-le}
 use Rattle.listing.proofs.Pictures.{cells-few, picture-passes, kept-four, listed, tray-region, region-lines-short}
 
 -- ---- the first kept regions

@@ -1,6 +1,5 @@
 -- The tray list of a record, as document 01 has it under "traylist": the refusal of a bad record, or the listing of a picture over the
--- definitions of
--- the picture door, the outline door, hull and quad. Definitions only. Assumes nothing.
+-- definitions of the picture door, the outline door, hull and quad. Definitions only. Assumes nothing.
 use mathlib.Core.Bool.{Bool, _&&_}
 use mathlib.Core.List.{List, [], _∷_, _++_}
 use Prim.Native.Nat.{ℕ, zero, suc, _+_, _*_}
@@ -38,16 +37,21 @@ pixelsOf s = take (widthOf s * heightOf s) (drop 10 s)
 abbrev pub isTraySide : ℕ → Bool
 isTraySide n = leb 1 n && leb n 160
 
--- 13: record short, length not 6 + width × height, kind not 1, a side outside 1..160. 0: no refusal.
+-- 13: record short, length not 6 + width × height, kind not 1, a side outside 1..160. 0: no refusal. First what follows the head, of n
+-- pixels.
+abbrev pub checkPixels : List ℕ → ℕ → ℕ
+checkPixels s n =
+    orRefuse (eqb (fourAt s 0) (6 + n)) 13
+    (orRefuse (leb (10 + n) (length s)) 13
+    0)
+
 abbrev pub checkRecord : List ℕ → ℕ
 checkRecord s =
     orRefuse (leb 10 (length s)) 13
     (orRefuse (eqb (pairAt s 4) 1) 13
     (orRefuse (isTraySide (widthOf s)) 13
     (orRefuse (isTraySide (heightOf s)) 13
-    (orRefuse (eqb (fourAt s 0) (6 + widthOf s * heightOf s)) 13
-    (orRefuse (leb (10 + widthOf s * heightOf s) (length s)) 13
-    0)))))
+    (checkPixels s (widthOf s * heightOf s)))))
 
 -- ---- the listing
 -- The corners doubled, or none.
@@ -59,11 +63,15 @@ quadLine (q ∷ l) = lineOf quadWord (numbersOf (q ∷ l))
 unfoldable pub outlineLines : List (ℕ × ℕ) → List ℕ
 outlineLines L = lineOf outlineWord (length L ∷ length (hullPoints L) ∷ []) ++ quadLine (quadPoints (hullPoints L))
 
--- The lines of a kept region r of the picture p of w by h: label, cells, box, then its outline.
+-- The boundary points of a region r of the picture p of w by h.
+abbrev pub regionPoints : Plane → ℕ → ℕ → Region → List (ℕ × ℕ)
+regionPoints p w h r = boundary 4 (isMember p w h (r .label)) (boxAt (r .x0) (r .y0) (r .x1) (r .y1))
+
+-- The lines of such a region: label, cells, box, then its outline.
 unfoldable pub regionLines : Plane → ℕ → ℕ → Region → List ℕ
 regionLines p w h r =
     lineOf regionWord (r .label ∷ r .cells ∷ r .x0 ∷ r .y0 ∷ r .x1 ∷ r .y1 ∷ [])
-    ++ outlineLines (boundary 4 (isMember p w h (r .label)) (boxAt (r .x0) (r .y0) (r .x1) (r .y1)))
+    ++ outlineLines (regionPoints p w h r)
 
 -- The lines of the first n kept regions.
 unfoldable pub firstLines : Plane → ℕ → ℕ → ℕ → List ℕ

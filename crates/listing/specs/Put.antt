@@ -1,19 +1,12 @@
 -- What the functions that write text hold on their way. Definitions only. Assumes nothing.
-use mathlib.Core.Path.{_≡_}
 use mathlib.Core.List.{List, [], _∷_, _++_, map}
-use Prim.Native.Nat.{ℕ, _+_, _≤_, _<_}
+use Prim.Native.Nat.{ℕ, _≤_, _<_}
 use lib.ListN.{length, getD}
-use lib.Seq.{sets}
 use lib.Ieee.{Float, binary32, ofBits, mul, toUnsigned}
 use Rattle.hull.specs.Points.{0f, many}
 use Rattle.hull.specs.Hull.{hullOf, hullFloats}
 use Rattle.hull.specs.Quad.{quadFloats}
 use Rattle.listing.specs.Text.{lineOf, outlineWord, quadWord, noneWord}
-
--- From old to new the bytes us were stored from place at on, and r is the place after them.
-pub record Stored (at : ℕ) (us old new : List ℕ) (r : ℕ) : Type 0 where
-  pub list : new ≡ sets old at us
-  pub next : r ≡ at + length us
 
 -- Every number of a list is below 1,000.
 abbrev pub Short : List ℕ → Type 0

@@ -6,12 +6,14 @@ use outline::Answer;
 use regions::answer::Kept;
 use regions::answer::Region;
 ghost use mathlib.Core.Path.{_≡_};
-ghost use Prim.Native.Nat.{_+_, _≤_};
-ghost use lib.ListN.{length};
+ghost use Prim.Native.Nat.{_+_, _*_, _≤_};
+ghost use lib.ListN.{length, take};
 ghost use Rattle.laws.specs.Plane.{plane};
 ghost use Rattle.regions.specs.Door.{keptRegions};
-ghost use Rattle.listing.specs.Listing.{regionLines, firstLines, pictureText};
-ghost use Rattle.listing.specs.Put.{Stored, Outlined, linesBy};
+ghost use Rattle.hull.specs.Points.{floatsOf};
+ghost use Rattle.listing.specs.Listing.{regionPoints, regionLines, firstLines, pictureText};
+ghost use Rattle.laws.specs.Lent.{Stored};
+ghost use Rattle.listing.specs.Put.{Outlined, linesBy};
 ghost use Rattle.listing.specs.Inner.{TrayPicture, Mapped, TrayRegion};
 
 // The lines of an outline whose points are p: how many points and vertices, and the quad.
@@ -25,6 +27,36 @@ fn outline_lines(p: &[f32], out: &mut [u8], at: usize) -> usize
     let m = hull::convex_hull(p, &mut vertices);
     let next = line(out, at, b"outline", &[n as u32, m as u32]);
     quad_line(&vertices[..2 * m], out, next)
+}
+
+// The points of one region, as the first numbers of the list; how many there are.
+fn region_points(
+    s: &[u8],
+    w: usize,
+    h: usize,
+    levels: &[u8],
+    labels: &[u32],
+    r: Region,
+    list: &mut [f32],
+) -> usize
+    requires { ⌜ TrayPicture (now s) w h ⌝ }
+    requires { ⌜ Mapped (now s) w h (now levels) (now labels) ⌝ }
+    requires { ⌜ TrayRegion w h r ⌝ }
+    requires { ⌜ 1280 ≤ length (now list) ⌝ }
+    ensures { λ n. ⌜ 2 * n ≤ 1280 ⌝ }
+    ensures { λ n. ⌜
+        take (2 * n) (now (list .exit))
+        ≡ floatsOf (regionPoints (plane w (now (s .entry))) w h r) ⌝ }
+{
+    let x0 = r.x0 as usize;
+    let y0 = r.y0 as usize;
+    let x1 = r.x1 as usize;
+    let y1 = r.y1 as usize;
+    let a = outline::outline(s, levels, labels, r.label, w, h, x0, y0, x1, y1, list);
+    let Answer::Points(n) = a else {
+        return 0;
+    };
+    n
 }
 
 // The lines of one region.
@@ -46,34 +78,15 @@ fn region_lines(
         Stored at (regionLines (plane w (now (s .entry))) w h r) (now (out .entry))
         (now (out .exit)) e ⌝ }
 {
-    let mut points = [0f32; 1280];
-    let x0 = r.x0 as usize;
-    let y0 = r.y0 as usize;
-    let x1 = r.x1 as usize;
-    let y1 = r.y1 as usize;
+    let mut list = [0f32; 1280];
     let next = line(
         out,
         at,
         b"region",
         &[r.label, r.cells, r.x0, r.y0, r.x1, r.y1],
     );
-    let a = outline::outline(
-        s,
-        levels,
-        labels,
-        r.label,
-        w,
-        h,
-        x0,
-        y0,
-        x1,
-        y1,
-        &mut points,
-    );
-    let Answer::Points(n) = a else {
-        return next;
-    };
-    outline_lines(&points[..2 * n], out, next)
+    let n = region_points(s, w, h, levels, labels, r, &mut list);
+    outline_lines(&list[..2 * n], out, next)
 }
 
 // The lines of the kept regions.

@@ -11,7 +11,8 @@ ghost use lib.ListN.{length};
 ghost use Rattle.hull.specs.Quad.{quadFloats, valuesOf};
 ghost use Rattle.hull.specs.declared.points.Corners.the-variants.{Found};
 ghost use Rattle.listing.specs.Text.{lineOf};
-ghost use Rattle.listing.specs.Put.{Stored, Short, Near, doubledOf, cornersLine};
+ghost use Rattle.laws.specs.Lent.{Stored};
+ghost use Rattle.listing.specs.Put.{Short, Near, doubledOf, cornersLine};
 
 // A word, numbers below 1,000 with a space before each, and a line feed.
 pub fn line(out: &mut [u8], at: usize, word: &[u8], ns: &[u32]) -> usize

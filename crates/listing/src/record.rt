@@ -2,7 +2,7 @@
 ghost use mathlib.Core.Path.{_≡_};
 ghost use Prim.Native.Nat.{_+_, _*_, _<_, _≤_};
 ghost use lib.ListN.{length};
-ghost use Rattle.listing.specs.Listing.{pairAt, fourAt, isTraySide, checkRecord};
+ghost use Rattle.listing.specs.Listing.{pairAt, fourAt, isTraySide, checkPixels, checkRecord};
 
 // How many bytes stand before the pixels.
 pub const HEAD: usize = 10;
@@ -38,6 +38,20 @@ fn is_side(n: usize) -> bool
     n <= 160
 }
 
+// 13 where the record does not have n pixels and say so, else 0.
+fn check_pixels(s: &[u8], n: usize) -> u32
+    requires { ⌜ (4 ≤ length (now s)) × (n ≤ 25600) ⌝ }
+    ensures { λ r. ⌜ r ≡ checkPixels (now (s .entry)) n ⌝ }
+{
+    if four_at(s, 0) != 6 + n {
+        return 13;
+    }
+    if s.len() < 10 + n {
+        return 13;
+    }
+    0
+}
+
 // 13 where the record is no picture of the tray list, else 0.
 pub fn check(s: &[u8]) -> u32
     ensures { λ r. ⌜ r ≡ checkRecord (now (s .entry)) ⌝ }
@@ -56,13 +70,7 @@ pub fn check(s: &[u8]) -> u32
     if !is_side(h) {
         return 13;
     }
-    if four_at(s, 0) != 6 + w * h {
-        return 13;
-    }
-    if s.len() < 10 + w * h {
-        return 13;
-    }
-    0
+    check_pixels(s, w * h)
 }
 
 // How many bytes of pixels are to be read after the ten bytes of a head; 0 where these are refused.

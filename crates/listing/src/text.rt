@@ -4,7 +4,8 @@ ghost use mathlib.Core.List.{[], _∷_};
 ghost use Prim.Native.Nat.{_+_, _*_, _<_, _≤_};
 ghost use lib.ListN.{length};
 ghost use Rattle.listing.specs.Text.{decimal, spaced};
-ghost use Rattle.listing.specs.Put.{Stored, Short};
+ghost use Rattle.laws.specs.Lent.{Stored};
+ghost use Rattle.listing.specs.Put.{Short};
 
 // One byte.
 pub fn put_byte(out: &mut [u8], at: usize, b: u8) -> usize

@@ -1,5 +1,5 @@
--- Laws of the outline door: side-in, part-in, fit-in; what an accepted call knows, Passed with passed; points-le; done-answer, done-list,
--- refused-answer, refused-list. Assumes nothing.
+-- Laws of the outline door: side-in, part-in, fit-in; check-step; what an accepted call knows, Passed with passed; points-le; done-answer,
+-- done-list, refused-answer, refused-list. Assumes nothing.
 use mathlib.Core.Path.{_≡_, refl, sym, ap, _∙_}
 use mathlib.Core.Bool.{Bool, true, false}
 use mathlib.Core.List.{List, _++_}
@@ -13,13 +13,14 @@ use borrow.Author.Tests.{ltb-true, leb-true, eqb-true}
 use Rattle.laws.specs.Check.{orRefuse}
 use Rattle.laws.specs.Move.{Box}
 use Rattle.laws.proofs.Bools.{and-left, and-right}
+use Rattle.checks.specs.Picture.{isSide}
 use Rattle.levels.specs.Level.{cells}
 use Rattle.regions.specs.Cells.{cells8}
 use Rattle.boundary.specs.Boundary.{rowsFrom, columnsFrom, boundary}
-use Rattle.outline.specs.Door.{isSide, isPart, gridsFit, checkOutline, answered, listAfter}
+use Rattle.outline.specs.Door.{isPart, gridsFit, checkOutline, answered, listAfter}
 use Rattle.outline.specs.Scan.{Grids, Wrote}
 use Rattle.outline.specs.declared.Answer.the-variants.{Points, Refused}
-use Rattle.outline.proofs.Writes.{rows-le, columns-le, wrote-laid}
+use Rattle.outline.proofs.Writes.{rows-le, columns-le, wrote-next, wrote-laid}
 
 pub side-in : (n : ℕ) → isSide n ≡ true → (1 ≤ n) × (n ≤ 4096)
 side-in n e = (leb-true 1 n (and-left (leb 1 n) (leb n 4096) e), leb-true n 4096 (and-right (leb 1 n) (leb n 4096) e))
@@ -47,9 +48,9 @@ pub record Passed (w h bytes x0 y0 x1 y1 levels labels room : ℕ) : Type 0 wher
   pub listRoom : 4 * (x1 - x0 + (y1 - y0)) ≤ room
 
 -- a check that passed, and the checks after it
-step : (b : Bool) (n rest : ℕ) → 0 < n → orRefuse b n rest ≡ 0 → (b ≡ true) × (rest ≡ 0)
-step true n rest l e = (refl, e)
-step false n rest l e = absurd (none n l e)
+pub check-step : (b : Bool) (n rest : ℕ) → 0 < n → orRefuse b n rest ≡ 0 → (b ≡ true) × (rest ≡ 0)
+check-step true n rest l e = (refl, e)
+check-step false n rest l e = absurd (none n l e)
   where
     none : (n : ℕ) → 0 < n → n ≡ 0 → ⊥
     none n l e = omega arith
@@ -57,13 +58,13 @@ step false n rest l e = absurd (none n l e)
 pub passed : (w h bytes x0 y0 x1 y1 levels labels room : ℕ) → checkOutline w h bytes x0 y0 x1 y1 levels labels room ≡ 0
     → Passed w h bytes x0 y0 x1 y1 levels labels room
 passed w h bytes x0 y0 x1 y1 levels labels room e =
-    let a = step (isSide w) 1 _ (lib.Dec.lit< tt) e in
-    let b = step (isSide h) 1 _ (lib.Dec.lit< tt) (a .1) in
-    let c = step (eqb bytes (w * h)) 2 _ (lib.Dec.lit< tt) (b .1) in
-    let d = step (isPart x0 x1 w) 5 _ (lib.Dec.lit< tt) (c .1) in
-    let f = step (isPart y0 y1 h) 5 _ (lib.Dec.lit< tt) (d .1) in
-    let g = step (gridsFit w h levels labels) 3 _ (lib.Dec.lit< tt) (f .1) in
-    let i = step (leb (4 * (x1 - x0 + (y1 - y0))) room) 3 _ (lib.Dec.lit< tt) (g .1) in
+    let a = check-step (isSide w) 1 _ (lib.Dec.lit< tt) e in
+    let b = check-step (isSide h) 1 _ (lib.Dec.lit< tt) (a .1) in
+    let c = check-step (eqb bytes (w * h)) 2 _ (lib.Dec.lit< tt) (b .1) in
+    let d = check-step (isPart x0 x1 w) 5 _ (lib.Dec.lit< tt) (c .1) in
+    let f = check-step (isPart y0 y1 h) 5 _ (lib.Dec.lit< tt) (d .1) in
+    let g = check-step (gridsFit w h levels labels) 3 _ (lib.Dec.lit< tt) (f .1) in
+    let i = check-step (leb (4 * (x1 - x0 + (y1 - y0))) room) 3 _ (lib.Dec.lit< tt) (g .1) in
     record {
       wide = side-in w (a .0) .1;
       high = side-in h (b .0) .1;
@@ -97,7 +98,7 @@ points-le k t b =
 module _ {ps : List (ℕ × ℕ)} {l l′ : List Float} {r : ℕ} (n : ℕ) (z : n ≡ 0) (w : Wrote 0 ps l l′ r) where
   pub done-answer : Points (r / 2) ≡ answered n (length ps)
   unfolding answered
-  done-answer = let e : r / 2 ≡ length ps = omega (arith, w .next) in rw (z, e)
+  done-answer = let e : r / 2 ≡ length ps = omega (arith, wrote-next w) in rw (z, e)
 
   pub done-list : 2 * length ps ≤ length l → l′ ≡ listAfter n ps l
   unfolding listAfter

@@ -1,6 +1,6 @@
 -- What the sweeps over a strip of columns keep. The invariant Stepped of a row (stepped-begin, stepped-turn), the thresholds (cuts-turn),
--- the invariant Swept of a strip (swept-begin, swept-turn, part-turn, swept-early, swept-most), and the points found (column-none,
--- column-is, columns-are, columns-none). Assumes nothing.
+-- the invariant Swept of a strip (swept-begin, swept-turn, swept-early, swept-most), lent parts (part-long, part-stepped), and the points
+-- found (column-none, column-is, columns-are, columns-none). Assumes nothing.
 use mathlib.Core.Path.{_≡_, refl, sym, ap, _∙_, subst}
 use mathlib.Core.Bool.{Bool, true, false, cond}
 use mathlib.Core.List.{List, [], _∷_, _++_, map, append-nil}
@@ -15,10 +15,11 @@ use borrow.Author.Tests.{le-leb, lt-leb, lt-ltb, le-ltb}
 use Rattle.laws.proofs.Bools.{le-or-lt}
 use Rattle.boundary.specs.Runs.{runStart, runEnd, edges}
 use Rattle.boundary.specs.Boundary.{memberAt, joined, down, columnPoints, columnsFrom}
-use Rattle.outline.specs.Scan.{toward, columnLine, scanStep, scan, columnFound, columnsFound, cutOf, CutRow, Stepped, Swept, AtMost}
+use Rattle.outline.specs.Scan.{toward, columnLine, scanStep, scan, columnFound, columnsFound, cutOf, CutRow, partOf, Stepped, Swept}
+use Rattle.outline.specs.Scan.{AtMost}
 use Rattle.outline.proofs.Scans.{scan-begin, scan-more, scan-le, scan-stays, start-found, start-none, end-found}
 use Rattle.outline.proofs.Cuts.{member-cut}
-use Rattle.outline.proofs.Writes.{joined-ext}
+use Rattle.boundary.proofs.Joined.{joined-ext}
 
 -- ---- a run that is found stays found
 pub scan-early : (m : ℕ → Bool) (i n r : ℕ) → 4 ≤ r → r ≡ scan 4 m i → i ≤ n → r ≡ scan 4 m n
@@ -72,32 +73,32 @@ swept-begin p y0 rows x n back l = record {
 }
 
 pub swept-turn : (want w : ℕ) (s levels labels : List ℕ) (y0 rows x n : ℕ) (back : Bool) (k : ℕ) (states cuts : List ℕ) (y : ℕ)
-    (row new : List ℕ)
+    (new : List ℕ)
     → Swept (memberAt want w s levels labels) y0 rows x n back k states → CutRow want w levels labels x n (y / 8) cuts
-    → y ≡ y0 + toward back rows k
-    → row ≡ take n (drop (y * w + x) s) → length row ≡ n → length new ≡ 64
-    → ((i : ℕ) → i < length row → getD new i 0 ≡ scanStep 4 (getD states i 0) (ltb (getD row i 0) (getD cuts i 0)) k)
+    → y ≡ y0 + toward back rows k → Stepped (partOf (y * w + x) n s) cuts states k n new
     → Swept (memberAt want w s levels labels) y0 rows x n back (k + 1) new
-unfolding columnLine
-swept-turn want w s levels labels y0 rows x n back k states cuts y row new v c ey er en size each = record { size = size; each = one }
+swept-turn want w s levels labels y0 rows x n back k states cuts y new v c ey st = record { size = st .size; each = one }
   where
     p : ℕ → ℕ → Bool
     p = memberAt want w s levels labels
 
+    row : List ℕ
+    row = partOf (y * w + x) n s
+
     pix : (j : ℕ) → j < n → getD row j 0 ≡ getD s (y * w + (x + j)) 0
     pix j l =
         let z : y * w + x + j ≡ y * w + (x + j) = omega arith in
-        ap (λ (q : List ℕ). getD q j 0) er ∙ getD-take n (drop (y * w + x) s) j 0 l ∙ getD-drop (y * w + x) s j 0
-        ∙ ap (λ (q : ℕ). getD s q 0) z
+        getD-take n (drop (y * w + x) s) j 0 l ∙ getD-drop (y * w + x) s j 0 ∙ ap (λ (q : ℕ). getD s q 0) z
 
     one : (j : ℕ) → j < n → getD new j 0 ≡ scan 4 (columnLine p y0 rows (x + j) back) (k + 1)
     one j l =
         unfold columnLine in
-        let m : p (x + j) (y0 + toward back rows k) ≡ ltb (getD row j 0) (getD cuts j 0)
-        = ap (p (x + j)) (sym ey) ∙ member-cut want w s levels labels (x + j) y
+        let m : p (x + j) (y0 + toward back rows k) ≡ ltb (getD row j 0) (getD cuts j 0) =
+        ap (p (x + j)) (sym ey)
+        ∙ member-cut want w s levels labels (x + j) y
         ∙ ap (λ (q : ℕ). ltb q (cutOf want w levels labels ((x + j) / 8) (y / 8))) (sym (pix j l))
         ∙ ap (λ (q : ℕ). ltb (getD row j 0) q) (sym (c .each j l)) in
-        each j (subst (λ (q : ℕ). j < q) (sym en) l)
+        st .done j l
         ∙ ap (λ (q : ℕ). scanStep 4 q (ltb (getD row j 0) (getD cuts j 0)) k) (v .each j l)
         ∙ ap (λ (q : Bool). scanStep 4 (scan 4 (columnLine p y0 rows (x + j) back) k) q k) (sym m)
         ∙ sym (scan-more 4 (columnLine p y0 rows (x + j) back) k)
@@ -114,36 +115,18 @@ pub swept-most : (p : ℕ → ℕ → Bool) (y0 rows x n : ℕ) (back : Bool) (k
 swept-most p y0 rows x n back k states v i l =
     subst (λ (q : ℕ). q ≤ k) (sym (v .each i l)) (scan-le (columnLine p y0 rows (x + i) back) 4 (lit≤ tt) k)
 
-abbrev pub part : ℕ → ℕ → List ℕ → List ℕ
-part a e s = take (e - a) (drop a s)
+-- ---- a part of a list, as the code lends it: from a up to a + n
+module _ (a n : ℕ) (s : List ℕ) where
+  lent : take (a + n - a) (drop a s) ≡ partOf a n s
+  lent = let z : a + n - a ≡ n = omega arith in ap (λ (k : ℕ). take k (drop a s)) z
 
-pub part-turn : (want w : ℕ) (s levels labels : List ℕ) (y0 rows x n : ℕ) (back : Bool) (k : ℕ) (states cuts : List ℕ) (y : ℕ)
-    (new : List ℕ)
-    → Swept (memberAt want w s levels labels) y0 rows x n back k states → CutRow want w levels labels x n (y / 8) cuts
-    → y ≡ y0 + toward back rows k
-    → y * w + x + n ≤ length s → length new ≡ 64
-    → ((i : ℕ) → i < length (part (y * w + x) (y * w + x + n) s)
-    → getD new i 0 ≡ scanStep 4 (getD states i 0) (ltb (getD (part (y * w + x) (y * w + x + n) s) i 0) (getD cuts i 0)) k)
-    → Swept (memberAt want w s levels labels) y0 rows x n back (k + 1) new
-part-turn want w s levels labels y0 rows x n back k states cuts y new v c ey fit size each =
-    let z : y * w + x + n - (y * w + x) ≡ n = omega arith in
-    swept-turn want w s levels labels y0 rows x n back k states cuts y (part (y * w + x) (y * w + x + n) s) new v c ey
-    (ap (λ (q : ℕ). take q (drop (y * w + x) s)) z) (long (y * w + x) s fit) size each
-  where
-    long : (a : ℕ) (s : List ℕ) → a + n ≤ length s → length (part a (a + n) s) ≡ n
-    long a s fit = simp (length-take, length-drop) (omega arith)
+  pub part-long : a + n ≤ length s → length (take (a + n - a) (drop a s)) ≡ n
+  part-long fit = simp (length-take, length-drop) (omega arith)
 
-pub part-at-most : (a n : ℕ) (s states : List ℕ) → AtMost n 4096 states → AtMost (length (part a (a + n) s)) 4096 states
-part-at-most a n s states h i l = h i (few (length (part a (a + n) s)) (short (drop a s)) l)
-  where
-    short : (l : List ℕ) → length (take (a + n - a) l) ≤ n
-    short l = simp length-take (omega arith)
-
-    few : (m : ℕ) → m ≤ n → i < m → i < n
-    few m b c = omega arith
-
-pub part-short : (a n : ℕ) (s : List ℕ) → n ≤ 64 → length (part a (a + n) s) ≤ 64
-part-short a n s l = simp (length-take) (omega arith)
+  pub part-stepped : {cuts old new : List ℕ} {k m : ℕ} → m ≡ n → Stepped (take (a + n - a) (drop a s)) cuts old k m new
+      → Stepped (partOf a n s) cuts old k n new
+  part-stepped {cuts} {old} {new} {k} {m} e st =
+      subst (λ (i : ℕ). Stepped (partOf a n s) cuts old k i new) e (subst (λ (l : List ℕ). Stepped l cuts old k m new) lent st)
 
 -- ---- the points of a column
 module _ (p : ℕ → ℕ → Bool) (y0 n x : ℕ) where

@@ -1,52 +1,25 @@
--- Points stored in the lent list. Lists of points: joined-more, joined-add, joined-ext, joined-le; row-two, column-two, found-two, rows-le,
--- columns-le. Numbers: numbers-append, floats-append, length-floats. Stores: wrote-none, wrote-append, wrote-ext, wrote-two, wrote-length,
--- wrote-laid; put-begin, put-more, room-more; strip-begin, strip-more, room-strip; half-is. Assumes nothing.
+-- Points stored in the lent list. Lists of points: row-two, column-two, found-two, rows-le, columns-le. Numbers: numbers-append,
+-- floats-append, length-floats. Stores: wrote-none, wrote-append, wrote-ext, wrote-two, wrote-length, wrote-next, wrote-laid; put-begin,
+-- put-more, room-more; strip-begin, strip-more, room-strip; half-is. Assumes nothing.
 use mathlib.Core.Path.{_≡_, refl, sym, ap, _∙_, subst}
 use mathlib.Core.Bool.{Bool, true, false, cond}
-use mathlib.Core.List.{List, [], _∷_, _++_, map, append-assoc, append-nil}
+use mathlib.Core.List.{List, [], _∷_, _++_, map}
 use Prim.Native.Nat.{ℕ, zero, suc, _+_, _-_, _*_, _≤_, _<_}
-use native.Mathlib.Nat.{add-zero, add-suc, add-assoc, mul-one}
-use native.Mathlib.Numerals.{add-one}
+use native.Mathlib.Nat.{add-assoc, mul-one}
 use native.Mathlib.Omega.{arith}
 use lib.Dec.{leb, ltb}
-use lib.ListN.{length, set, drop, length-append, length-map}
-use lib.Seq.{sets, length-sets}
+use lib.ListN.{length, set}
 use lib.IntN.{pos}
 use lib.Ieee.{Float, binary32, round, mul, ofInt, ofBits}
 use lib.Ieee.Back.{round-whole}
 use lib.Ieee.Exact.{HasValue}
-use Rattle.laws.proofs.Stores.{sets-append, map-append, laid-is}
+use Rattle.laws.proofs.Stores.{map-append, stored-none, stored-append, stored-ext, stored-length, stored-laid}
 use Rattle.ieee.proofs.Vals.{mul-round}
 use Rattle.hull.specs.Points.{halfOf, numbersOf, floatsOf, laid}
+use Rattle.boundary.proofs.Joined.{joined-more, joined-add, joined-ext, joined-le}
 use Rattle.boundary.specs.Runs.{runStart, runEnd, edges}
 use Rattle.boundary.specs.Boundary.{joined, rowPoints, columnPoints, rowsFrom, columnsFrom}
-use Rattle.outline.specs.Scan.{columnFound, put, Wrote}
-
--- ---- lists one after the other
-pub joined-more : {A : Type 0} (n : ℕ) (f : ℕ → List A) → joined (n + 1) f ≡ joined n f ++ f n
-unfolding joined
-joined-more n f = rw add-one
-
-pub joined-add : {A : Type 0} (n m : ℕ) (f : ℕ → List A) → joined (n + m) f ≡ joined n f ++ joined m (λ i. f (n + i))
-unfolding joined
-joined-add {A} n zero f = ap (λ (k : ℕ). joined k f) (add-zero n) ∙ sym (append-nil (joined n f))
-joined-add {A} n (suc m) f =
-    ap (λ (k : ℕ). joined k f) (add-suc n m)
-    ∙ ap (λ (l : List A). l ++ f (n + m)) (joined-add n m f)
-    ∙ append-assoc (joined n f) (joined m (λ i. f (n + i))) (f (n + m))
-
-pub joined-ext : {A : Type 0} (n : ℕ) (f g : ℕ → List A) → ((i : ℕ) → i < n → f i ≡ g i) → joined n f ≡ joined n g
-unfolding joined
-joined-ext zero f g same = refl
-joined-ext (suc n) f g same =
-    let ih = joined-ext n f g (λ i l. same i (omega arith)) in
-    let here = same n (omega arith) in
-    cc
-
-pub joined-le : {A : Type 0} (k n : ℕ) (f : ℕ → List A) → ((i : ℕ) → length (f i) ≤ k) → length (joined n f) ≤ k * n
-unfolding joined
-joined-le k zero f few = omega arith
-joined-le k (suc n) f few = rw (length-append (joined n f) (f n)) (omega (arith, joined-le k n f few, few n))
+use Rattle.outline.specs.Scan.{columnFound, Wrote}
 
 -- ---- a line has two points or none
 two-le : (b : Bool) (p q : ℕ) (f : ℕ → ℕ × ℕ) → length (map f (cond b (p ∷ q ∷ []) [])) ≤ 2
@@ -97,46 +70,37 @@ length-floats (q ∷ l) = two (length (floatsOf l)) (length l) (length-floats l)
 
 -- ---- stores
 pub wrote-none : (at : ℕ) (l : List Float) → Wrote at [] l l at
-unfolding put floatsOf numbersOf
-wrote-none at l = record { list = refl; next = sym (add-zero at) }
+unfolding floatsOf numbersOf
+wrote-none at l = record { stored = stored-none at l }
 
 pub wrote-append : {at : ℕ} {us vs : List (ℕ × ℕ)} {l l′ l″ : List Float} {r r′ : ℕ} → Wrote at us l l′ r → Wrote r vs l′ l″ r′
     → Wrote at (us ++ vs) l l″ r′
-unfolding put
-wrote-append {at} {us} {vs} {l} {l′} {l″} {r} {r′} v w =
-    let e : r ≡ at + length (floatsOf us) = v .next ∙ ap (λ (k : ℕ). at + k) (sym (length-floats us)) in
-    record {
-      list =
-          w .list
-          ∙ ap (λ (q : List Float). sets q r (floatsOf vs)) (v .list)
-          ∙ ap (λ (k : ℕ). sets (sets l at (floatsOf us)) k (floatsOf vs)) e
-          ∙ sets-append l at (floatsOf us) (floatsOf vs)
-          ∙ ap (λ (q : List Float). sets l at q) (sym (floats-append us vs));
-      next = w .next ∙ sum at (length us) (length vs) r (v .next) ∙ ap (λ (k : ℕ). at + 2 * k) (sym (length-append us vs));
-    }
-  where
-    sum : (at a b r : ℕ) → r ≡ at + 2 * a → r + 2 * b ≡ at + 2 * (a + b)
-    sum at a b r e = omega arith
+wrote-append {at} {us} {vs} v w = record {
+  stored = stored-ext (floatsOf us ++ floatsOf vs) (floatsOf (us ++ vs)) (sym (floats-append us vs))
+      (stored-append (v .stored) (w .stored));
+}
 
 pub wrote-ext : {at : ℕ} {l l′ : List Float} {r : ℕ} (us vs : List (ℕ × ℕ)) → us ≡ vs → Wrote at us l l′ r → Wrote at vs l l′ r
 wrote-ext {at} {l} {l′} {r} us vs e w = subst (λ (q : List (ℕ × ℕ)). Wrote at q l l′ r) e w
 
 pub wrote-two : (at a b c d : ℕ) (l : List Float) {p q r s : Float} → p ≡ halfOf a → q ≡ halfOf b → r ≡ halfOf c → s ≡ halfOf d
     → Wrote at ((a, b) ∷ (c, d) ∷ []) l (set (set (set (set l at p) (at + 1) q) (at + 2) r) (at + 3) s) (at + 4)
-unfolding put floatsOf numbersOf
+unfolding floatsOf numbersOf
 wrote-two at a b c d l hp hq hr hs =
     let e1 : at + 1 ≡ suc at = omega arith in
     let e2 : at + 2 ≡ suc (suc at) = omega arith in
     let e3 : at + 3 ≡ suc (suc (suc at)) = omega arith in
-    record { list = rw (e1, e2, e3, hp, hq, hr, hs); next = refl }
+    record { stored = record { list = rw (e1, e2, e3, hp, hq, hr, hs); next = refl } }
 
 pub wrote-length : {at : ℕ} {ps : List (ℕ × ℕ)} {l l′ : List Float} {r : ℕ} → Wrote at ps l l′ r → length l′ ≡ length l
-unfolding put
-wrote-length {at} {ps} {l} w = ap length (w .list) ∙ length-sets l at (floatsOf ps)
+wrote-length w = stored-length (w .stored)
+
+-- the place after the points
+pub wrote-next : {at : ℕ} {ps : List (ℕ × ℕ)} {l l′ : List Float} {r : ℕ} → Wrote at ps l l′ r → r ≡ at + 2 * length ps
+wrote-next {at} {ps} w = w .stored .next ∙ ap (λ (k : ℕ). at + k) (length-floats ps)
 
 pub wrote-laid : {ps : List (ℕ × ℕ)} {l l′ : List Float} {r : ℕ} → Wrote 0 ps l l′ r → 2 * length ps ≤ length l → l′ ≡ laid (floatsOf ps) l
-unfolding put
-wrote-laid {ps} {l} w fit = w .list ∙ laid-is (floatsOf ps) l (rw (length-floats ps) fit)
+wrote-laid {ps} {l} w fit = stored-laid (w .stored) (rw (length-floats ps) fit)
 
 -- ---- line by line
 module _ (f : ℕ → List (ℕ × ℕ)) where
@@ -151,7 +115,7 @@ module _ (f : ℕ → List (ℕ × ℕ)) where
   -- room for a line more, where a line has two points or none
   pub room-more : {l l′ : List Float} {at r : ℕ} (i n : ℕ) → ((j : ℕ) → length (f j) ≤ 2) → Wrote at (joined i f) l l′ r → i < n
       → at + 4 * n ≤ length l → r + 4 ≤ length l′
-  room-more i n few w h room = omega (arith, w .next, joined-le 2 i f few, wrote-length w)
+  room-more i n few w h room = omega (arith, wrote-next w, joined-le 2 i f few, wrote-length w)
 
 -- strip by strip
 module _ (t : ℕ → ℕ → Bool) (y0 rows x0 : ℕ) where
@@ -177,7 +141,7 @@ module _ (t : ℕ → ℕ → Bool) (y0 rows x0 : ℕ) where
   pub room-strip : {l l′ : List Float} {at r : ℕ} (i m n : ℕ) → Wrote at (columnsFrom 4 t y0 rows x0 i) l l′ r → i + m ≤ n
       → at + 4 * n ≤ length l
       → r + 4 * m ≤ length l′
-  room-strip i m n w h room = omega (arith, w .next, columns-le 4 t y0 rows x0 i, wrote-length w)
+  room-strip i m n w h room = omega (arith, wrote-next w, columns-le 4 t y0 rows x0 i, wrote-length w)
 
 -- ---- halves
 pub half-is : (n : ℕ) → n ≤ 16384 → mul binary32 (ofInt binary32 (pos n)) (ofBits binary32 0x3f00_0000) ≡ halfOf n

@@ -3,20 +3,17 @@
 use mathlib.Core.Bool.{Bool, _&&_}
 use mathlib.Core.List.{List}
 use Prim.Native.Nat.{ℕ, zero, suc, _+_, _-_, _*_}
-use lib.Dec.{leb, ltb, eqb}
+use lib.Dec.{leb, ltb}
 use lib.Ieee.{Float}
 use Rattle.laws.specs.Check.{orRefuse}
 use Rattle.laws.specs.Move.{Box}
+use Rattle.checks.specs.Picture.{checkPicture}
 use Rattle.levels.specs.Level.{cells}
 use Rattle.regions.specs.Cells.{cells8}
 use Rattle.hull.specs.Points.{floatsOf, laid}
 use Rattle.boundary.specs.Boundary.{memberAt, boundary}
 use Rattle.outline.specs.declared.Answer.{Answer}
 use Rattle.outline.specs.declared.Answer.the-variants.{Points, Refused}
-
--- A side of a picture lies in 1..4,096.
-abbrev pub isSide : ℕ → Bool
-isSide n = leb 1 n && leb n 4096
 
 -- Not an empty part of a side of n pixels: from a, which is within, to e, which is not.
 abbrev pub isPart : ℕ → ℕ → ℕ → Bool
@@ -26,17 +23,18 @@ isPart a e n = ltb a e && leb e n
 abbrev pub gridsFit : ℕ → ℕ → ℕ → ℕ → Bool
 gridsFit w h levels labels = leb (cells w * cells h) levels && leb (cells8 w * cells8 h) labels
 
--- 1: a side outside 1..4,096. 2: bytes not width × height. 5: box not 0 ≤ x0 < x1 ≤ width, same for y.
--- 3: grids, or list below 4 × (box width + height) numbers. 0: no refusal.
-abbrev pub checkOutline : ℕ → ℕ → ℕ → ℕ → ℕ → ℕ → ℕ → ℕ → ℕ → ℕ → ℕ
-checkOutline w h bytes x0 y0 x1 y1 levels labels room =
-    orRefuse (isSide w) 1
-    (orRefuse (isSide h) 1
-    (orRefuse (eqb bytes (w * h)) 2
-    (orRefuse (isPart x0 x1 w) 5
+-- 5: box not 0 ≤ x0 < x1 ≤ width, same for y. 3: grids, or list below 4 × (box width + height) numbers. 0: no refusal.
+abbrev pub checkParts : ℕ → ℕ → ℕ → ℕ → ℕ → ℕ → ℕ → ℕ → ℕ → ℕ
+checkParts w h x0 y0 x1 y1 levels labels room =
+    orRefuse (isPart x0 x1 w) 5
     (orRefuse (isPart y0 y1 h) 5
     (orRefuse (gridsFit w h levels labels) 3
-    (orRefuse (leb (4 * (x1 - x0 + (y1 - y0))) room) 3 0))))))
+    (orRefuse (leb (4 * (x1 - x0 + (y1 - y0))) room) 3
+    0)))
+
+-- The checks of the picture, 1 and 2, then these.
+abbrev pub checkOutline : ℕ → ℕ → ℕ → ℕ → ℕ → ℕ → ℕ → ℕ → ℕ → ℕ → ℕ
+checkOutline w h bytes x0 y0 x1 y1 levels labels room = checkPicture w h bytes (checkParts w h x0 y0 x1 y1 levels labels room)
 
 -- The box from x0, y0, which is within, to x1, y1, which is not.
 abbrev pub boxAt : ℕ → ℕ → ℕ → ℕ → Box

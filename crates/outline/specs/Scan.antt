@@ -4,9 +4,9 @@ use mathlib.Core.Bool.{Bool, true, false, cond}
 use mathlib.Core.List.{List, [], _∷_}
 use Prim.Native.Nat.{ℕ, zero, suc, _+_, _-_, _*_, _/_, _≤_, _<_}
 use lib.Dec.{leb, ltb, eqb}
-use lib.ListN.{length, getD}
-use lib.Seq.{sets}
+use lib.ListN.{length, getD, take, drop}
 use lib.Ieee.{Float}
+use Rattle.laws.specs.Lent.{Stored}
 use Rattle.laws.specs.Plane.{plane}
 use Rattle.levels.specs.Level.{cells}
 use Rattle.regions.specs.Cells.{cells8}
@@ -66,10 +66,21 @@ pub record Grids (levels labels : List ℕ) (w h : ℕ) : Type 0 where
   pub levelRoom : cells w * cells h ≤ length levels
   pub regionRoom : cells8 w * cells8 h ≤ length labels
 
+-- The n columns from x on of the m rows from y0 on, of which there are some, lie in the picture s of w by h.
+pub record Columns (s : List ℕ) (w h x n y0 m : ℕ) : Type 0 where
+  pub bytes : length s ≡ w * h
+  pub across : x + n ≤ w
+  pub down : y0 + m ≤ h
+  pub some : 0 < m
+
 -- Thresholds of the n pixels from x on, in a row of region cells.
 pub record CutRow (want w : ℕ) (levels labels : List ℕ) (x n cy : ℕ) (cuts : List ℕ) : Type 0 where
   pub size : length cuts ≡ 64
   pub each : (i : ℕ) → i < n → getD cuts i 0 ≡ cutOf want w levels labels ((x + i) / 8) cy
+
+-- The n elements of a list from place a on.
+abbrev pub partOf : ℕ → ℕ → List ℕ → List ℕ
+partOf a n l = take n (drop a l)
 
 -- States of a strip of columns, one step of a scan later.
 pub record Stepped (row cuts old : List ℕ) (k i : ℕ) (new : List ℕ) : Type 0 where
@@ -87,11 +98,6 @@ abbrev pub AtMost : ℕ → ℕ → List ℕ → Type 0
 AtMost n m l = (i : ℕ) → i < n → getD l i 0 ≤ m
 
 -- ---- the lent list
--- A list with the numbers of points stored from place at on.
-unfoldable pub put : ℕ → List (ℕ × ℕ) → List Float → List Float
-put at ps l = sets l at (floatsOf ps)
-
 -- From old to new the numbers of points were stored from place at on, and r is the place after them.
 pub record Wrote (at : ℕ) (ps : List (ℕ × ℕ)) (old new : List Float) (r : ℕ) : Type 0 where
-  pub list : new ≡ put at ps old
-  pub next : r ≡ at + 2 * length ps
+  pub stored : Stored at (floatsOf ps) old new r

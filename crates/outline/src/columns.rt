@@ -8,7 +8,8 @@ ghost use Prim.Native.Nat.{_+_, _-_, _*_, _<_, _≤_};
 ghost use lib.ListN.{length};
 ghost use Rattle.boundary.specs.Boundary.{memberAt, columnsFrom, boundary};
 ghost use Rattle.outline.specs.Door.{boxAt};
-ghost use Rattle.outline.specs.Scan.{Grids, columnFound, columnsFound, AtMost, Wrote};
+ghost use Rattle.outline.specs.Scan.{Grids, Columns, columnFound, columnsFound, AtMost};
+ghost use Rattle.outline.specs.Scan.{Wrote};
 
 // Stores the points of column x, whose scans of n rows from y0 on ended in d and u.
 fn put_column(
@@ -77,45 +78,26 @@ fn strip(
     x: usize,
     n: usize,
     y0: usize,
-    rows: usize,
+    m: usize,
     out: &mut [f32],
     at: usize,
 ) -> usize
     requires { ⌜ Grids (now levels) (now labels) w h ⌝ }
-    requires { ⌜
-        (length (now s) ≡ w * h)
-        × (x + n ≤ w)
-        × (0 < n)
-        × (n ≤ 64)
-        × (y0 + rows ≤ h)
-        × (0 < rows)
-        × (at + 4 * n ≤ length (now out)) ⌝ }
+    requires { ⌜ Columns (now s) w h x n y0 m ⌝ }
+    requires { ⌜ (0 < n) × (n ≤ 64) × (at + 4 * n ≤ length (now out)) ⌝ }
     ensures { λ r. ⌜
         Wrote at (columnsFrom 4
-        (memberAt want w (now (s .entry)) (now (levels .entry)) (now (labels .entry))) y0 rows x
+        (memberAt want w (now (s .entry)) (now (levels .entry)) (now (labels .entry))) y0 m x
         n) (now (out .entry)) (now (out .exit)) r ⌝ }
 {
     let mut down = [0u16; 64];
     let mut up = [0u16; 64];
-    scan_columns(
-        s,
-        levels,
-        labels,
-        want,
-        w,
-        h,
-        x,
-        n,
-        y0,
-        rows,
-        false,
-        &mut down,
-    );
+    scan_columns(s, levels, labels, want, w, h, x, n, y0, m, false, &mut down);
     if none_found(&down, n) {
         return at;
     }
-    scan_columns(s, levels, labels, want, w, h, x, n, y0, rows, true, &mut up);
-    put_columns(&down, &up, x, n, y0, rows, out, at)
+    scan_columns(s, levels, labels, want, w, h, x, n, y0, m, true, &mut up);
+    put_columns(&down, &up, x, n, y0, m, out, at)
 }
 
 // At most 64.
@@ -140,40 +122,23 @@ fn all_columns(
     x0: usize,
     n: usize,
     y0: usize,
-    rows: usize,
+    m: usize,
     out: &mut [f32],
     at: usize,
 ) -> usize
     requires { ⌜ Grids (now levels) (now labels) w h ⌝ }
-    requires { ⌜
-        (length (now s) ≡ w * h)
-        × (x0 + n ≤ w)
-        × (y0 + rows ≤ h)
-        × (0 < rows)
-        × (at + 4 * n ≤ length (now out)) ⌝ }
+    requires { ⌜ Columns (now s) w h x0 n y0 m ⌝ }
+    requires { ⌜ at + 4 * n ≤ length (now out) ⌝ }
     ensures { λ r. ⌜
         Wrote at (columnsFrom 4
-        (memberAt want w (now (s .entry)) (now (levels .entry)) (now (labels .entry))) y0 rows
+        (memberAt want w (now (s .entry)) (now (levels .entry)) (now (labels .entry))) y0 m
         x0 n) (now (out .entry)) (now (out .exit)) r ⌝ }
 {
     let mut to = at;
     let mut i: usize = 0;
     while i < n {
         let wide = strip_width(n - i);
-        to = strip(
-            s,
-            levels,
-            labels,
-            want,
-            w,
-            h,
-            x0 + i,
-            wide,
-            y0,
-            rows,
-            out,
-            to,
-        );
+        to = strip(s, levels, labels, want, w, h, x0 + i, wide, y0, m, out, to);
         i += wide;
     }
     to

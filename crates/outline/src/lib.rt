@@ -4,8 +4,8 @@ ghost use lib.ListN.{length};
 ghost use Rattle.outline.specs.Door.{checkOutline, doorPoints, answered, listAfter};
 
 mod cells;
-mod checks;
 mod columns;
+mod refusals;
 mod rows;
 mod stores;
 mod sweep;
@@ -46,18 +46,11 @@ pub fn outline(
         (doorPoints want w (now (s .entry)) (now (levels .entry))
         (now (labels .entry)) x0 y0 x1 y1) (now (out .entry)) ⌝ }
 {
-    let n = checks::check(
-        w,
-        h,
-        s.len(),
-        x0,
-        y0,
-        x1,
-        y1,
-        levels.len(),
-        labels.len(),
-        out.len(),
-    );
+    let bytes = s.len();
+    let grid = levels.len();
+    let cells = labels.len();
+    let room = out.len();
+    let n = refusals::check(w, h, bytes, x0, y0, x1, y1, grid, cells, room);
     if n == 0 {
         let end = columns::boundary_points(s, levels, labels, want, w, h, x0, y0, x1, y1, out);
         return Answer::Points(end / 2);

@@ -10,7 +10,8 @@ ghost use Prim.Native.Nat.{ℕ, _+_, _*_, _/_, _<_, _≤_};
 ghost use lib.Dec.{ltb};
 ghost use lib.ListN.{getD, length};
 ghost use Rattle.boundary.specs.Boundary.{memberAt};
-ghost use Rattle.outline.specs.Scan.{scanStep, Grids, CutRow, Stepped, Swept, AtMost};
+ghost use Rattle.outline.specs.Scan.{scanStep, Grids, Columns, CutRow, partOf, Stepped};
+ghost use Rattle.outline.specs.Scan.{Swept, AtMost};
 
 // a, or b where c is false.
 fn pick(c: bool, a: u16, b: u16) -> u16
@@ -101,6 +102,28 @@ fn step_row(row: &[u8], cuts: &[u8; 64], state: &mut [u16; 64], k: u16)
     }
 }
 
+// The same for the n columns from x on, at row y of the picture.
+fn sweep_row(
+    s: &[u8],
+    w: usize,
+    h: usize,
+    x: usize,
+    n: usize,
+    y: usize,
+    cuts: &[u8; 64],
+    state: &mut [u16; 64],
+    k: u16,
+)
+    requires { ⌜ (length (now s) ≡ w * h) × (w ≤ 4096) × (h ≤ 4096) × (x + n ≤ w) × (y < h) ⌝ }
+    requires { ⌜ (n ≤ 64) × (length (now state) ≡ 64) × (k < 4096) × AtMost n 4096 (now state) ⌝ }
+    ensures { λ _. ⌜
+        Stepped (partOf (y * w + x) n (now (s .entry))) (now (cuts .entry)) (now (state .entry)) k n
+        (now (state .exit)) ⌝ }
+{
+    let a = y * w + x;
+    step_row(&s[a..a + n], cuts, state, k);
+}
+
 // Whether each of the n columns has its run; looked at after every eighth row only.
 fn all_found(state: &[u16; 64], n: usize, k: usize) -> bool
     requires { ⌜ n ≤ 64 ⌝ }
@@ -150,13 +173,7 @@ pub fn scan_columns(
     state: &mut [u16; 64],
 )
     requires { ⌜ Grids (now levels) (now labels) w h ⌝ }
-    requires { ⌜
-        (length (now s) ≡ w * h)
-        × (x + n ≤ w)
-        × (0 < n)
-        × (n ≤ 64)
-        × (y0 + rows ≤ h)
-        × (0 < rows) ⌝ }
+    requires { ⌜ Columns (now s) w h x n y0 rows × (0 < n) × (n ≤ 64) ⌝ }
     requires { ⌜
         Swept (memberAt want w (now s) (now levels) (now labels)) y0 rows x n back 0 (now state) ⌝ }
     ensures { λ _. ⌜
@@ -171,8 +188,7 @@ pub fn scan_columns(
         let cy = y / 8;
         y = place(back, y0, rows, k);
         refill(levels, labels, want, w, h, x, n, cy, y, &mut cuts);
-        let a = y * w + x;
-        step_row(&s[a..a + n], &cuts, state, k as u16);
+        sweep_row(s, w, h, x, n, y, &cuts, state, k as u16);
         k += 1;
         if all_found(state, n, k) {
             return;

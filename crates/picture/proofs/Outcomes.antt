@@ -18,6 +18,7 @@ use Rattle.labels.specs.Labelling.{Answers, cleared, given}
 use Rattle.labels.specs.Marks.{Levelled, markAt}
 use Rattle.laws.proofs.Counts.{count-most}
 use Rattle.laws.proofs.Folds.{drop-written, getD-written, is-tab}
+use Rattle.laws.proofs.Past.{past-more, past-then}
 use Rattle.laws.proofs.Planes.{plane-drawn}
 use Rattle.laws.proofs.Writes.{written-ext}
 use Rattle.laws.specs.Check.{orRefuse}
@@ -74,20 +75,13 @@ mapped-of s w h cw ch labels stack worked marked worked-stack labels′ stack′
     n : ℕ
     n = cellsOf w h
 
-    -- what is past the region cells is past the level cells
-    deeper : (old new : List ℕ) → UntouchedPast (cells w * cells h) old new → UntouchedPast (cellsOf w h) old new
-    deeper old new e =
-        let d : cellsOf w h ≡ cells w * cells h + (cellsOf w h - cells w * cells h) = omega arith in
-        rw d (sym (drop-drop (cellsOf w h - cells w * cells h) (cells w * cells h) new) ∙ ap (drop (cellsOf w h - cells w * cells h)) e
-        ∙ drop-drop (cellsOf w h - cells w * cells h) (cells w * cells h) old)
-
     past-marked : drop (cellsOf w h) marked ≡ drop (cellsOf w h) labels
     past-marked =
         ap (drop (cellsOf w h)) is
         ∙ ap (λ (k : ℕ). drop k (drawn (cells8 w) (cells8 h) (markAt (plane w s) w h) worked)) (mul-comm (cells8 h) (cells8 w))
         ∙ drop-written (cells8 w * cells8 h) (rowwise (cells8 w) (markAt (plane w s) w h)) worked
         ∙ ap (λ (k : ℕ). drop k worked) (mul-comm (cells8 w) (cells8 h))
-        ∙ deeper labels worked past
+        ∙ past-more (cellsOf w h) more past .past
 
     go : {r : Next} → Answers (cells8 w) (cellsOf w h) marked worked-stack labels′ stack′ r → Mapped s w h labels stack labels′ stack′ r
     go (given f kept) =
@@ -96,7 +90,7 @@ mapped-of s w h cw ch labels stack worked marked worked-stack labels′ stack′
         (q .0 ∙ ap (λ (t : List ℕ). tab (cellsOf w h) (label (inkCell (plane w s) w h) (near (cells8 w)) (cellsOf w h)) ++ t) past-marked
         ∙ labels-drawn (plane w s) w h labels)
         (q .1)
-        (kept ∙ deeper stack worked-stack past-stack)
+        (past-then (past-more (cellsOf w h) more past-stack) kept)
     go (cleared few zl zs) =
         full (omega arith) (zl ∙ ap (λ (k : ℕ). replicate k 0) (same-marked ∙ same)) (zs ∙ ap (λ (k : ℕ). replicate k 0) same-stack)
 

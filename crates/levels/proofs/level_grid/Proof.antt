@@ -1,10 +1,10 @@
 -- Levels of all cells, pooled to thresholds, and eight passes over these: level-drawn puts the three together. Assumes nothing.
-use mathlib.Core.Path.{_∙_, _≡_, ap, refl}
+use mathlib.Core.Path.{_∙_, _≡_, refl}
 use Prim.Native.Nat.{_*_}
-use lib.ListN.{drop}
 use borrow.Author.Needs.{needs}
 use denote.Ref.{now}
-use Rattle.laws.proofs.Folds.{drop-written}
+use Rattle.laws.proofs.Past.{past-then, past-written}
+use Rattle.laws.specs.Lent.{UntouchedPast}
 use Rattle.laws.specs.Plane.{drawn, plane, rowwise}
 use Rattle.levels.proofs.Near.{darks-bytes, grid-of, level-drawn, level-is, lights-bytes}
 use Rattle.levels.specs.Level.{cells, dark, light, passes, sharp}
@@ -73,8 +73,9 @@ returns c =
     let s = c .before .before .before .before .before .before .before .before .before .before .before .before .before .sharp in
     let k = c .before .before .before .before .before .before .before .before .before .before .before .before .before .before .before
     .before .before .before .before .before .before .before .before .level-cells in
-    let a = c .before .before .before .before .before .before .before .before .before .before .before .before .before .before .before
-    .before .before .before .before .before .before .before .before .before .before .before .before .before .before .before .args in
+    let p = c .before .before .before .before .before .before .before .before .before .before .before .before .before .before .before
+    .before .before .before .before .before .before .before .before .before .before .before .before .before .before .before in
+    let a = p .args in
     let ew = c .before .before .before .before .before .before .before .before .before .before .before .before .before .before .before
     .before .before .before .cells-of .ensures in
     let eh = c .before .before .before .before .before .before .before .before .before .before .before .before .before .before .before
@@ -88,14 +89,14 @@ returns c =
     let grid = s .last .1 .1 .0 in
     let over : grid ≡ drawn w h (sharp w h (plane w ds) (plane w ls)) (now (a .grid)) = rw (ew, eh) at (s .ensures .0) in
     let last : f .last .0 ≡ drawn w h (passes w h 8 (plane w grid)) grid = rw (ew, eh) at (f .ensures .0) in
-    let past₁ : drop (w * h) (s .last .0) ≡ drop (w * h) ds = rw (ew, eh) at (s .ensures .1 .0) in
-    let past₂ : drop (w * h) (f .last .1 .0) ≡ drop (w * h) (s .last .0) = rw (ew, eh) at (f .ensures .1) in
-    let past₃ : drop (w * h) (s .last .1 .0) ≡ drop (w * h) ls = rw (ew, eh) at (s .ensures .1 .1) in (
+    let past₁ : UntouchedPast (w * h) ds (s .last .0) = rw (ew, eh) at (s .ensures .1 .0) in
+    let past₂ : UntouchedPast (w * h) (s .last .0) (f .last .1 .0) = rw (ew, eh) at (f .ensures .1) in
+    let past₃ : UntouchedPast (w * h) ls (s .last .1 .0) = rw (ew, eh) at (s .ensures .1 .1) in (
       last ∙ level-drawn w h d l ds (now (a .darks)) ls (now (a .lights)) (now (a .grid)) grid (k .ensures .0) (k .ensures .1) over
           ∙ rw level-is,
       (
-        past₂ ∙ past₁ ∙ ap (drop (w * h)) (k .ensures .0) ∙ drop-written (w * h) (rowwise w d) (now (a .darks)),
-        past₃ ∙ ap (drop (w * h)) (k .ensures .1) ∙ drop-written (w * h) (rowwise w l) (now (a .lights)),
+        past-then (past-then (past-written (w * h) (rowwise w d) (now (a .darks)) (p .pre .1 .first) (k .ensures .0)) past₁) past₂,
+        past-then (past-written (w * h) (rowwise w l) (now (a .lights)) (p .pre .1 .second) (k .ensures .1)) past₃,
       ),
     )
 

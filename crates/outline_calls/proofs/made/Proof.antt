@@ -1,8 +1,7 @@
 -- `outline_calls::made` meets its contract. Assumes nothing.
 use lib.Seq.{length-take-le}
-use lib.ListN.{length}
 use native.Mathlib.Omega.{arith}
-use mathlib.Core.Path.{_≡_, sym}
+use mathlib.Core.Path.{sym}
 use borrow.Author.Needs.{needs}
 use Rattle.outline_calls.proofs.made.Statement.{statement}
 use Rattle.outline_calls.proofs.made.Tie as tie
@@ -60,28 +59,22 @@ array-share-prefix-s c = search needs
 
 slice-aggregate-lent-2 : tie.Need-slice-aggregate-lent-2
 slice-aggregate-lent-2 c =
-    let l : length (c .before .before .before .before .before .before .before .unpack .last .1 .0)
-    ≡ length (c .before .before .before .before .before .before .before .before .before .before .before .before .picture-room .result) =
-    c .before .before .before .before .before .before .before .unpack .kept .1 .0 in
     let r = c .before .before .before .before .before .before .before .before .before .before .before .before .picture-room .ensures in
+    let u = c .before .before .before .before .before .before .before .unpack in
     let a =
     c .before .before .before .before .before .before .before .before .before .before .before .before .before .before .before .args in
-    sym (length-take-le (a .n)
-    (c .before .before .before .before .before .before .before .unpack .last .1 .0) (omega arith))
+    sym (length-take-le (a .n) (u .last .1 .0) (omega (arith, u .kept .1 .0)))
 
 array-share-prefix-levels : tie.Need-array-share-prefix-levels
 array-share-prefix-levels c = search needs
 
 slice-aggregate-lent-3 : tie.Need-slice-aggregate-lent-3
 slice-aggregate-lent-3 c =
-    let l : length (c .before .before .before .before .unpack2 .last .1 .0)
-    ≡ length (c .before .before .before .before .before .before .before .before .before .before .before .before .level-room .result) =
-    c .before .before .before .before .unpack2 .kept .1 .0 in
     let r = c .before .before .before .before .before .before .before .before .before .before .before .before .level-room .ensures in
+    let u = c .before .before .before .before .unpack2 in
     let far = c .before .before .before .before .before .before .before .before .before .before in
     let a = far .before .before .before .before .before .before .args in
-    sym (length-take-le (a .g)
-    (c .before .before .before .before .unpack2 .last .1 .0) (omega arith))
+    sym (length-take-le (a .g) (u .last .1 .0) (omega (arith, u .kept .1 .0)))
 
 mul-lent : tie.Need-mul-lent
 mul-lent c = search needs
@@ -100,23 +93,18 @@ array-borrow-prefix-list c = search needs
 
 slice-aggregate-lent-4 : tie.Need-slice-aggregate-lent-4
 slice-aggregate-lent-4 c =
-    let r = c .before .before .before .before .before .before .before .before .before .before .before .before .before .room .ensures in
+    let r = c .before .before .before .before .before .before .before .before .before .before .before .before .before .room in
     let far = c .before .before .before .before .before .before .before .before .before .before in
     let a = far .before .before .before .before .before .before .before .before .args in
-    sym (length-take-le (a .m)
-    (c .before .before .before .before .before .before .before .before .before .before .before .before .before .room .result)
-    (omega arith))
+    sym (length-take-le (a .m) (r .result) (omega (arith, r .ensures)))
 
 lent-requires : tie.Need-lent-requires
 lent-requires c κs =
     let far = c .before .before .before .before .before .before .before .before .before .before in
     let a = far .before .before .before .before .before .before .before .before .before .args in
-    let r =
-    c .before .before .before .before .before .before .before .before .before .before .before .before .before .before .room .ensures in
+    let r = far .before .before .before .before .room in
     let p = length-take-le 11 (a .args .now) (omega arith) in
-    let q = length-take-le (a .m)
-    (c .before .before .before .before .before .before .before .before .before .before .before .before .before .before .room .result)
-    (omega arith) in
+    let q = length-take-le (a .m) (r .result) (omega (arith, r .ensures)) in
     (omega arith, omega arith)
 
 same-length : tie.Need-same-length

@@ -15,6 +15,7 @@ use Rattle.laws.specs.Fold.{first}
 use Rattle.laws.specs.Plane.{plane}
 use Rattle.picture.proofs.Outcomes.{answer-refused, check-few, labelled-by, level-cells-few, mapped-at, mapped-full}
 use Rattle.regions.specs.Door.{answerBy, checkGrids, keptRegions}
+use Rattle.laws.proofs.Past.{past-then}
 use Rattle.picture.proofs.picture.Statement.{statement}
 use Rattle.picture.proofs.picture.Tie as tie
 
@@ -120,7 +121,7 @@ returns-3 c =
     sym (k .ensures .0) ∙ c .before .before .before .before .before .before .before .before .before .before .before .before .before .before
     .before .before .before .before .if1 .left in (
       rw (passed, r .ensures .0),
-      (i .ensures .0, (m .0, r .ensures .1 ∙ m .2)),
+      (i .ensures .0, (m .0, past-then (m .2) (r .ensures .1))),
     )
 
 pub picture-spec : {M : Type 1} → statement M

@@ -1,15 +1,11 @@
 -- The stack holds the cells whose neighbours are still to be visited (Flow); the measure is the depth of the stack with the marks that are
 -- left. Assumes nothing.
-use mathlib.Core.Bool.{true}
-use mathlib.Core.Path.{_≡_, refl}
 use Prim.Native.Nat.{_*_, _+_, _-_}
 use native.Mathlib.Omega.{arith}
-use lib.ListN.{getD}
 use borrow.Author.Needs.{needs}
-use Rattle.labels.proofs.VisitLaws.{Flow, down-safe, flow-turn, or-at, or-full, run-sum, safe-begin, step-safe}
-use Rattle.labels.specs.Visits.{begin, fills, marks, stops}
-use Rattle.laws.specs.Fold.{first}
-use Rattle.regions.proofs.Sizes.{size}
+use Rattle.labels.proofs.VisitLaws.{Flow, down-safe, flow-begin, flow-end, flow-full, flow-less, flow-turn}
+use Rattle.labels.proofs.VisitLaws.{or-at, or-full, safe-begin, step-safe}
+use Rattle.labels.specs.Visits.{fills, marks, stops}
 use Rattle.regions.specs.Labels.{near}
 use Rattle.labels.proofs.groups.flood.Statement.{statement}
 use Rattle.labels.proofs.groups.flood.Tie as tie
@@ -42,12 +38,8 @@ loop-holds : tie.Need-loop-holds Inv-loop μ-loop
 loop-holds c =
     let e = c .before .before .before .before .before .before .before .before .before .before .before .before in
     let r = c .before .before .before .before .before .before .before .visit in
-    record {
-      done = begin;
-      safe = step-safe (e .args .v) (λ p. omega (arith, e .pre)) (or-at (r .ensures) (c .before .first .given .1)) (safe-begin _ _);
-      size = omega (arith, r .kept .0, e .pre);
-      same-stack = refl;
-    }
+    flow-begin (step-safe (e .args .v) (λ p. omega (arith, e .pre)) (or-at (r .ensures) (c .before .first .given .1)) (safe-begin _ _))
+    (omega (arith, r .kept .0, e .pre))
 
 sub-k : tie.Need-sub-k Inv-loop μ-loop
 sub-k c = search needs
@@ -65,15 +57,10 @@ visit-near-requires : tie.Need-visit-near-requires Inv-loop μ-loop
 visit-near-requires c κs =
     let e = c .before .before .before .before .before .before .before .before .before .before .before .before .before .before .before
     .before .before in
+    let p = e .pre in
     let q = c .before .before .before .before .loop in (
       down-safe _ _ (q .k) (q .inv .safe),
-      (
-        q .inv .safe .below (q .k - 1) (omega arith),
-        q .inv .size,
-        omega (arith, q .inv .size, e .pre),
-        omega (arith, e .pre),
-        omega (arith, e .pre),
-      ),
+      (q .inv .safe .below (q .k - 1) (omega arith), q .inv .size, omega (arith, q .inv .size, p), omega (arith, p), omega (arith, p)),
     )
 
 enum-known-next : tie.Need-enum-known-next Inv-loop μ-loop
@@ -93,28 +80,17 @@ returns-2 c =
     let e = c .before .before .before .before .before .before .before .before .before .before .before .before .before .before .before
     .before .before .before .before .before .before .before .before .before in
     let q = c .before .before .before .before .before .before .before .before .before .before .before .loop .inv in
+    let r = c .before .before .before .before .before .before .before .before .before .before .before .before .before .before .before
+    .before .before .before .before .visit in
     let t = or-full (c .before .before .before .before .before .before .visit-near .ensures) (c .enum-told2 .given .1) in
-    stops (omega (
-      arith,
-      t,
-      q .size,
-      q .same-stack,
-      c .before .before .before .before .before .before .before .before .before .before .before .before .before .before .before .before
-          .before .before .before .visit .kept .1 .0,
-      e .pre,
-    ))
+    stops (omega (arith, flow-full q t, r .kept .1 .0, e .pre))
 
 loop-less : tie.Need-loop-less Inv-loop μ-loop
 loop-less c =
     let e = c .before .before .before .before .before .before .before .before .before .before .before .before .before .before .before
     .before .before .before .before .before .before .before .before .before .before in
-    let q = c .before .before .before .before .before .before .before .before .before .before .before .before .loop in
     let t = or-at (c .before .before .before .before .before .before .before .visit-near .ensures) (c .before .next .given .1) in
-    omega (
-      arith,
-      run-sum (e .args .v) (λ p. omega (arith, e .pre)) (λ j. near (e .args .w) (getD (q .stack) (q .k - 1) 0) j ≡ true)
-          (t .ran),
-    )
+    flow-less (near (e .args .w)) (λ p. omega (arith, e .pre)) (omega arith) (t .ran)
 
 loop-again : tie.Need-loop-again Inv-loop μ-loop
 loop-again c =
@@ -136,14 +112,7 @@ returns-3 c =
     let e = c .before .before .before .before .before .before .before .before .before .before .before .before .before .before in
     let r = c .before .before .before .before .before .before .before .before .before .visit in
     let q = c .before .loop in
-    let z : q .k ≡ 0 = omega arith in
-    fills (record {
-      mid = r .last .0;
-      mid-stack = r .last .1 .0;
-      depth = c .before .before .before .first .given .0 .0;
-      entry = or-at (r .ensures) (c .before .before .before .first .given .1);
-      rest = rw z at (q .inv .done);
-    })
+    fills (flow-end (or-at (r .ensures) (c .before .before .before .first .given .1)) (q .inv) (omega arith))
 
 pub flood-spec : {M : Type 1} → statement M
 flood-spec =

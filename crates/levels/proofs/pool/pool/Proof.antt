@@ -1,10 +1,9 @@
 -- Across, then down, is the pool (pooled-drawn). Assumes nothing.
-use mathlib.Core.Path.{_∙_, ap}
 use Prim.Native.Nat.{_*_}
-use lib.ListN.{drop}
+use native.Mathlib.Omega.{arith}
 use borrow.Author.Needs.{needs}
 use denote.Ref.{now}
-use Rattle.laws.proofs.Folds.{drop-written}
+use Rattle.laws.proofs.Past.{past-written}
 use Rattle.laws.specs.Plane.{plane, rowwise}
 use Rattle.levels.proofs.Pools.{pooled-drawn}
 use Rattle.levels.specs.Steps.{across, down}
@@ -32,8 +31,8 @@ returns c =
           (down .ensures .0),
       (
         down .ensures .1,
-        ap (drop (a .w * a .h)) (over .ensures)
-            ∙ drop-written (a .w * a .h) (rowwise (a .w) (across (a .most) (a .w) (plane (a .w) (now (a .g))))) (now (a .mid)),
+        past-written (a .w * a .h) (rowwise (a .w) (across (a .most) (a .w) (plane (a .w) (now (a .g))))) (now (a .mid)) (omega arith)
+            (over .ensures),
       ),
     )
 

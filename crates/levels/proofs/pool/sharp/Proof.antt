@@ -3,10 +3,10 @@ use mathlib.Core.Bool.{false, true}
 use mathlib.Core.List.{List, _++_}
 use mathlib.Core.Path.{_∙_, ap}
 use Prim.Native.Nat.{_*_, ℕ}
-use lib.ListN.{drop}
+use native.Mathlib.Omega.{arith}
 use borrow.Author.Needs.{needs}
 use denote.Ref.{now}
-use Rattle.laws.proofs.Folds.{drop-written}
+use Rattle.laws.proofs.Past.{past-written}
 use Rattle.laws.specs.Fold.{tab}
 use Rattle.laws.specs.Plane.{plane, rowwise}
 use Rattle.levels.proofs.Pools.{pairwise-drawn}
@@ -50,8 +50,9 @@ same-length-3 c = search needs
 
 returns : tie.Need-returns
 returns c =
-    let a = c .before .before .before .before .before .before .before .before .before .before .before .before .before .before .before
-    .before .before .before .before .before .before .before .before .args in
+    let p = c .before .before .before .before .before .before .before .before .before .before .before .before .before .before .before
+    .before .before .before .before .before .before .before .before in
+    let a = p .args in
     let darks = c .before .before .before .before .before .before .before .before .before .before .before .before .before .before .before
     .before .before .pool in
     let lights = c .before .before .before .before .before .before .before .before .before .before .pool2 in
@@ -62,12 +63,12 @@ returns c =
           (darks .ensures .0) (lights .ensures .0)
           ∙ ap (λ (l : List ℕ). tab n
           (rowwise (a .w) (sharp (a .w) (a .h) (plane (a .w) (now (a .darks))) (plane (a .w) (now (a .lights))))) ++ l)
-          (lights .ensures .1 .1 ∙ darks .ensures .1 .1),
+          (lights .ensures .1 .1 .past ∙ darks .ensures .1 .1 .past),
       (
-        ap (drop n) (darks .ensures .0)
-            ∙ drop-written n (rowwise (a .w) (pooled false (a .w) (a .h) (plane (a .w) (now (a .darks))))) (now (a .darks)),
-        ap (drop n) (lights .ensures .0)
-            ∙ drop-written n (rowwise (a .w) (pooled true (a .w) (a .h) (plane (a .w) (now (a .lights))))) (now (a .lights)),
+        past-written n (rowwise (a .w) (pooled false (a .w) (a .h) (plane (a .w) (now (a .darks))))) (now (a .darks)) (p .pre .0 .room)
+            (darks .ensures .0),
+        past-written n (rowwise (a .w) (pooled true (a .w) (a .h) (plane (a .w) (now (a .lights))))) (now (a .lights)) (p .pre .1 .0 .room)
+            (lights .ensures .0),
       ),
     )
 

@@ -4,8 +4,8 @@ use Rattle.listing.proofs.Texts.{region-nth, tray-nth}
 use lib.ListN.{getD}
 use Rattle.listing.proofs.Texts.{first-none, first-more, first-room, kept-count}
 use Rattle.listing.proofs.Pictures.{kept-four, listed, tray-region}
-use Rattle.listing.proofs.Stores.{stored-length}
-use Rattle.listing.specs.Put.{Stored}
+use Rattle.laws.proofs.Stores.{stored-length}
+use Rattle.laws.specs.Lent.{Stored}
 use Rattle.listing.specs.Listing.{firstLines}
 use Rattle.laws.specs.Plane.{plane}
 use denote.Ref.{now}

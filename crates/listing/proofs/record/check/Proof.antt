@@ -1,14 +1,12 @@
 -- `listing::record::check` meets its contract. Each way out is one line of the chain of checks. Assumes nothing.
-use Rattle.listing.proofs.Records.{refuse-bytes, accept}
-use Rattle.listing.proofs.Records.{side-of, area-small, refuse-short, refuse-kind, refuse-wide, refuse-high, refuse-length}
+use Rattle.listing.proofs.Records.{side-of, area-small, refuse-short, refuse-kind, refuse-wide, refuse-high, check-rest}
 use mathlib.Core.Path.{_≡_, sym, ap, ap₂, _∙_}
-use Rattle.listing.specs.Listing.{isTraySide, pairAt}
+use Rattle.listing.specs.Listing.{pairAt, checkPixels}
 use Rattle.laws.proofs.Bools.{not-true, not-false}
 use lib.ListN.{length}
 use denote.Ref.{now}
 use native.Mathlib.Omega.{arith}
-use Prim.Native.Nat.{ℕ, _+_, _*_, _≤_}
-use mathlib.Core.Bool.{true}
+use Prim.Native.Nat.{ℕ, _*_, _≤_}
 use borrow.Author.Needs.{needs}
 use Rattle.listing.proofs.record.check.Statement.{statement}
 use Rattle.listing.proofs.record.check.Tie as tie
@@ -58,91 +56,39 @@ returns-4 c =
     let v = c .before .is-side2 in
     refuse-high s long kind wide (side-of y (v .ensures) ∙ not-true (v .result) (c .if4 .taken))
 
-four-at-requires : tie.Need-four-at-requires
-four-at-requires c κs = search needs
-
-mul-if5 : tie.Need-mul-if5
-mul-if5 c =
-    let d = c .before .before .before .before in
-    let v = c .before .before .is-side2 in
-    let wide = not-false (d .is-side .result) (c .before .before .before .if3 .left) in
-    let high = not-false (v .result) (c .before .if4 .left) in
+mul-check-pixels : tie.Need-mul-check-pixels
+mul-check-pixels c =
+    let d = c .before .before .before in
+    let v = c .before .is-side2 in
+    let wide = not-false (d .is-side .result) (c .before .before .if3 .left) in
+    let high = not-false (v .result) (c .if4 .left) in
     omega (
       arith,
-      area-small (d .before .before .pair-at2 .result) (d .before .pair-at3 .result) (d .is-side .ensures) wide (v .ensures)
-          high,
+      area-small (d .before .before .pair-at2 .result) (d .before .pair-at3 .result) (d .is-side .ensures) wide (v .ensures) high,
     )
 
-add-if5 : tie.Need-add-if5
-add-if5 c =
-    let d = c .before .before .before .before in
-    let v = c .before .before .is-side2 in
-    let wide = not-false (d .is-side .result) (c .before .before .before .if3 .left) in
-    let high = not-false (v .result) (c .before .if4 .left) in
-    omega (
-      arith,
-      area-small (d .before .before .pair-at2 .result) (d .before .pair-at3 .result) (d .is-side .ensures) wide (v .ensures)
-          high,
+check-pixels-requires : tie.Need-check-pixels-requires
+check-pixels-requires c κs =
+    let d = c .before .before .before in
+    let v = c .before .is-side2 in
+    let wide = not-false (d .is-side .result) (c .before .before .if3 .left) in
+    let high = not-false (v .result) (c .if4 .left) in (
+      omega arith,
+      area-small (d .before .before .pair-at2 .result) (d .before .pair-at3 .result) (d .is-side .ensures) wide (v .ensures) high,
     )
 
 returns-5 : tie.Need-returns-5
 returns-5 c =
-    let d = c .before .before .before .before .before in
+    let d = c .before .before .before .before in
     let s = now (d .before .before .before .before .before .before .before .args .s) in
     let long : 10 ≤ length s = omega arith in
     let kind : pairAt s 4 ≡ 1 = sym (d .before .before .before .before .pair-at .ensures .0) ∙ d .before .before .before .if2 .left in
     let x = d .before .before .pair-at2 .ensures .0 in
-    let wide = side-of x (d .is-side .ensures) ∙ not-false (d .is-side .result) (c .before .before .before .before .if3 .left) in
+    let wide = side-of x (d .is-side .ensures) ∙ not-false (d .is-side .result) (c .before .before .before .if3 .left) in
     let y = d .before .pair-at3 .ensures .0 in
-    let v = c .before .before .before .is-side2 in
-    let high = side-of y (v .ensures) ∙ not-false (v .result) (c .before .before .if4 .left) in
-    let e = ap₂ (λ (m n : ℕ). m * n) x y in
-    refuse-length s long kind wide high (λ q. c .if5 .taken (c .before .four-at .ensures ∙ q ∙ ap (λ (n : ℕ). 6 + n) (sym e)))
-
-mul-if6 : tie.Need-mul-if6
-mul-if6 c = search needs
-
-add-if6 : tie.Need-add-if6
-add-if6 c =
-    let d = c .before .before .before .before .before in
-    let v = c .before .before .before .is-side2 in
-    let wide = not-false (d .is-side .result) (c .before .before .before .before .if3 .left) in
-    let high = not-false (v .result) (c .before .before .if4 .left) in
-    omega (
-      arith,
-      area-small (d .before .before .pair-at2 .result) (d .before .pair-at3 .result) (d .is-side .ensures) wide (v .ensures)
-          high,
-    )
-
-returns-6 : tie.Need-returns-6
-returns-6 c =
-    let d = c .before .before .before .before .before .before in
-    let s = now (d .before .before .before .before .before .before .before .args .s) in
-    let long : 10 ≤ length s = omega arith in
-    let kind : pairAt s 4 ≡ 1 = sym (d .before .before .before .before .pair-at .ensures .0) ∙ d .before .before .before .if2 .left in
-    let x = d .before .before .pair-at2 .ensures .0 in
-    let wide = side-of x (d .is-side .ensures) ∙ not-false (d .is-side .result) (c .before .before .before .before .before .if3 .left) in
-    let y = d .before .pair-at3 .ensures .0 in
-    let v = c .before .before .before .before .is-side2 in
-    let high = side-of y (v .ensures) ∙ not-false (v .result) (c .before .before .before .if4 .left) in
-    let e = ap₂ (λ (m n : ℕ). m * n) x y in
-    let k = sym (c .before .before .four-at .ensures) ∙ c .before .if5 .left ∙ ap (λ (n : ℕ). 6 + n) e in
-    refuse-bytes s long kind wide high k (omega arith)
-
-returns-7 : tie.Need-returns-7
-returns-7 c =
-    let d = c .before .before .before .before .before .before in
-    let s = now (d .before .before .before .before .before .before .before .args .s) in
-    let long : 10 ≤ length s = omega arith in
-    let kind : pairAt s 4 ≡ 1 = sym (d .before .before .before .before .pair-at .ensures .0) ∙ d .before .before .before .if2 .left in
-    let x = d .before .before .pair-at2 .ensures .0 in
-    let wide = side-of x (d .is-side .ensures) ∙ not-false (d .is-side .result) (c .before .before .before .before .before .if3 .left) in
-    let y = d .before .pair-at3 .ensures .0 in
-    let v = c .before .before .before .before .is-side2 in
-    let high = side-of y (v .ensures) ∙ not-false (v .result) (c .before .before .before .if4 .left) in
-    let e = ap₂ (λ (m n : ℕ). m * n) x y in
-    let k = sym (c .before .before .four-at .ensures) ∙ c .before .if5 .left ∙ ap (λ (n : ℕ). 6 + n) e in
-    accept s long kind wide high k (omega arith)
+    let v = c .before .before .is-side2 in
+    let high = side-of y (v .ensures) ∙ not-false (v .result) (c .before .if4 .left) in
+    c .check-pixels .ensures ∙ ap (λ (n : ℕ). checkPixels s n) (ap₂ (λ (m n : ℕ). m * n) x y) ∙ check-rest s long kind wide high
 
 pub check-spec : {M : Type 1} → statement M
 check-spec =
@@ -157,11 +103,6 @@ check-spec =
     returns-3
     is-side-requires-2
     returns-4
-    four-at-requires
-    mul-if5
-    add-if5
-    returns-5
-    mul-if6
-    add-if6
-    returns-6
-    returns-7)
+    mul-check-pixels
+    check-pixels-requires
+    returns-5)

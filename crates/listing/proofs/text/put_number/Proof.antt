@@ -1,6 +1,6 @@
 -- `listing::text::put_number` meets its contract. Assumes nothing.
 use Rattle.listing.proofs.Numbers.{decimal-one, decimal-two, decimal-three}
-use Rattle.listing.proofs.Stores.{stored-append, stored-ext}
+use Rattle.laws.proofs.Stores.{stored-append, stored-ext}
 use native.Mathlib.Omega.{arith}
 use Prim.Native.Nat.{ℕ, _+_, _/_, _%_}
 use mathlib.Core.List.{List, [], _∷_, _++_}

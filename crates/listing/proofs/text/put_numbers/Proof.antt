@@ -2,14 +2,14 @@
 -- each. The measure is what is left of the numbers. Assumes nothing.
 use mathlib.Core.List.{List}
 use Rattle.listing.proofs.Numbers.{spaced-none, spaced-more, spaced-room}
-use Rattle.listing.proofs.Stores.{stored-none, stored-append, stored-ext, stored-length}
+use Rattle.laws.proofs.Stores.{stored-none, stored-append, stored-ext, stored-length}
 use lib.ListN.{getD, length, take}
 use lib.Seq.{take-all}
 use Prim.Native.Nat.{ℕ, _-_, _≤_}
 use denote.Ref.{now}
 use native.Mathlib.Omega.{arith}
 use mathlib.Core.Path.{_≡_, ap, subst}
-use Rattle.listing.specs.Put.{Stored}
+use Rattle.laws.specs.Lent.{Stored}
 use Rattle.listing.specs.Text.{spaced}
 use borrow.Author.Needs.{needs}
 use Rattle.listing.proofs.text.put_numbers.Statement.{statement}

@@ -1,5 +1,5 @@
 -- `listing::text::put_spaced` meets its contract. Assumes nothing.
-use Rattle.listing.proofs.Stores.{stored-append}
+use Rattle.laws.proofs.Stores.{stored-append}
 use borrow.Author.Needs.{needs}
 use Rattle.listing.proofs.text.put_spaced.Statement.{statement}
 use Rattle.listing.proofs.text.put_spaced.Tie as tie

@@ -1,13 +1,14 @@
 -- `listing::text::put_word` meets its contract. The loop's invariant: the first i bytes of the word are stored. The
 -- measure is what is left of the word. Assumes nothing.
 use lib.Seq.{length-take-le, take-all}
-use Rattle.listing.proofs.Stores.{word-none, word-more, stored-length}
+use Rattle.laws.proofs.Stores.{stored-length}
+use Rattle.listing.proofs.Stores.{word-none, word-more}
 use Prim.Native.Nat.{ℕ, _-_, _≤_}
 use denote.Ref.{now}
 use native.Mathlib.Omega.{arith}
 use mathlib.Core.List.{List}
 use mathlib.Core.Path.{_≡_, ap, subst}
-use Rattle.listing.specs.Put.{Stored}
+use Rattle.laws.specs.Lent.{Stored}
 use lib.ListN.{length, take}
 use borrow.Author.Needs.{needs}
 use Rattle.listing.proofs.text.put_word.Statement.{statement}

@@ -12,17 +12,17 @@ use Rattle.outline.proofs.columns.all_columns.Statement.{statement}
 use Rattle.outline.proofs.columns.all_columns.Tie as tie
 
 abbrev Inv-loop : tie.InvT-loop
-Inv-loop s levels labels want w h x0 n y0 rows out₀ at to₀ i₀ out to i =
-    (i ≤ n) × Wrote at (columnsFrom 4 (memberAt want w s levels labels) y0 rows x0 i) out₀ out to
+Inv-loop s levels labels want w h x0 n y0 m out₀ at to₀ i₀ out to i =
+    (i ≤ n) × Wrote at (columnsFrom 4 (memberAt want w s levels labels) y0 m x0 i) out₀ out to
 
 abbrev μ-loop : tie.MeasureT-loop
-μ-loop s levels labels want w h x0 n y0 rows out₀ at to₀ i₀ out to i = n - i
+μ-loop s levels labels want w h x0 n y0 m out₀ at to₀ i₀ out to i = n - i
 
 loop-holds : tie.Need-loop-holds Inv-loop μ-loop
 loop-holds c =
     let a = c .before .before .before .before .args in (
       omega arith,
-      strip-begin (memberAt (a .want) (a .w) (now (a .s)) (now (a .levels)) (now (a .labels))) (a .y0) (a .rows) (a .x0)
+      strip-begin (memberAt (a .want) (a .w) (now (a .s)) (now (a .levels)) (now (a .labels))) (a .y0) (a .m) (a .x0)
           (a .at) (now (a .out)),
     )
 
@@ -44,13 +44,12 @@ strip-requires c κs =
     let p = memberAt (a .want) (a .w) (now (a .s)) (now (a .levels)) (now (a .labels)) in (
       e .pre .0,
       (
-        e .pre .1 .0,
-        omega arith,
-        wide .ensures .1,
-        wide .ensures .2,
-        e .pre .1 .2,
-        e .pre .1 .3,
-        room-strip p (a .y0) (a .rows) (a .x0) (q .i) (wide .result) (a .n) (q .inv .1) (omega arith) (e .pre .1 .4),
+        record { bytes = e .pre .1 .0 .bytes; across = omega arith; down = e .pre .1 .0 .down; some = e .pre .1 .0 .some },
+        (
+          wide .ensures .1,
+          wide .ensures .2,
+          room-strip p (a .y0) (a .m) (a .x0) (q .i) (wide .result) (a .n) (q .inv .1) (omega arith) (e .pre .1 .1),
+        ),
       ),
     )
 
@@ -66,7 +65,7 @@ loop-again c =
     let q = c .before .before .before .before .before .before .loop in
     let wide = c .before .before .before .before .strip-width in
     let p = memberAt (a .want) (a .w) (now (a .s)) (now (a .levels)) (now (a .labels)) in
-    (omega arith, strip-more p (a .y0) (a .rows) (a .x0) (q .i) (wide .result) (q .inv .1) (c .before .before .strip .ensures))
+    (omega arith, strip-more p (a .y0) (a .m) (a .x0) (q .i) (wide .result) (q .inv .1) (c .before .before .strip .ensures))
 
 same-length : tie.Need-same-length Inv-loop μ-loop
 same-length c = wrote-length (c .before .loop .inv .1)

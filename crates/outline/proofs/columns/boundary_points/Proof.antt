@@ -4,7 +4,7 @@ use native.Mathlib.Omega.{arith}
 use denote.Ref.{now}
 use borrow.Author.Needs.{needs}
 use Rattle.boundary.specs.Boundary.{memberAt, boundary}
-use Rattle.outline.proofs.Writes.{wrote-append, wrote-length, rows-le}
+use Rattle.outline.proofs.Writes.{wrote-append, wrote-length, wrote-next, rows-le}
 use Rattle.outline.proofs.columns.boundary_points.Statement.{statement}
 use Rattle.outline.proofs.columns.boundary_points.Tie as tie
 
@@ -25,11 +25,8 @@ all-columns-requires c κs =
     let r = c .before .before .before .all-rows .ensures in (
       e .pre .0,
       (
-        e .pre .1 .0,
-        omega arith,
-        omega arith,
-        omega arith,
-        omega (arith, r .next, wrote-length r, rows-le 4 p (a .x0) (a .x1 - a .x0) (a .y0) (a .y1 - a .y0), e .pre .1 .5),
+        record { bytes = e .pre .1 .0; across = omega arith; down = omega arith; some = omega arith },
+        omega (arith, wrote-next r, wrote-length r, rows-le 4 p (a .x0) (a .x1 - a .x0) (a .y0) (a .y1 - a .y0), e .pre .1 .5),
       ),
     )
 

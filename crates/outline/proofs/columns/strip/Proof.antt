@@ -16,20 +16,20 @@ scan-columns-requires c κs =
     let p = memberAt (a .want) (a .w) (now (a .s)) (now (a .levels)) (now (a .labels)) in (
       e .pre .0,
       (
-        (e .pre .1 .0, e .pre .1 .1, e .pre .1 .2, e .pre .1 .3, e .pre .1 .4, e .pre .1 .5),
-        swept-begin p (a .y0) (a .rows) (a .x) (a .n) false (e .pre .1 .3),
+        (e .pre .1 .0, e .pre .1 .1 .0, e .pre .1 .1 .1),
+        swept-begin p (a .y0) (a .m) (a .x) (a .n) false (e .pre .1 .1 .1),
       ),
     )
 
 none-found-requires : tie.Need-none-found-requires
-none-found-requires c κs = c .before .before .before .before .before .before .before .pre .1 .3
+none-found-requires c κs = c .before .before .before .before .before .before .before .pre .1 .1 .1
 
 returns : tie.Need-returns
 returns c =
     let a = c .before .before .before .before .before .before .before .before .before .args in
     let p = memberAt (a .want) (a .w) (now (a .s)) (now (a .levels)) (now (a .labels)) in
-    wrote-ext _ (columnsFrom 4 p (a .y0) (a .rows) (a .x) (a .n))
-    (columns-none p (a .y0) (a .rows) (a .x) (a .n) _ (c .before .before .before .scan-columns .ensures)
+    wrote-ext _ (columnsFrom 4 p (a .y0) (a .m) (a .x) (a .n))
+    (columns-none p (a .y0) (a .m) (a .x) (a .n) _ (c .before .before .before .scan-columns .ensures)
     (c .before .none-found .ensures (c .if1 .taken))) (wrote-none (a .at) (now (a .out)))
 
 scan-columns-requires-2 : tie.Need-scan-columns-requires-2
@@ -39,8 +39,8 @@ scan-columns-requires-2 c κs =
     let p = memberAt (a .want) (a .w) (now (a .s)) (now (a .levels)) (now (a .labels)) in (
       e .pre .0,
       (
-        (e .pre .1 .0, e .pre .1 .1, e .pre .1 .2, e .pre .1 .3, e .pre .1 .4, e .pre .1 .5),
-        swept-begin p (a .y0) (a .rows) (a .x) (a .n) true (e .pre .1 .3),
+        (e .pre .1 .0, e .pre .1 .1 .0, e .pre .1 .1 .1),
+        swept-begin p (a .y0) (a .m) (a .x) (a .n) true (e .pre .1 .1 .1),
       ),
     )
 
@@ -49,11 +49,11 @@ put-columns-requires c κs =
     let e = c .before .before .before .before .before .before .before .before .before .before .before .before .before .before in
     let a = e .args in
     let p = memberAt (a .want) (a .w) (now (a .s)) (now (a .levels)) (now (a .labels)) in (
-      (omega (arith, e .pre .0, e .pre .1), e .pre .1 .3, omega (arith, e .pre .0, e .pre .1), e .pre .1 .6),
+      (omega (arith, e .pre .0, e .pre .1), e .pre .1 .1 .1, omega (arith, e .pre .0, e .pre .1), e .pre .1 .1 .2),
       (
-        swept-most p (a .y0) (a .rows) (a .x) (a .n) false (a .rows) _
+        swept-most p (a .y0) (a .m) (a .x) (a .n) false (a .m) _
             (c .before .before .before .before .before .before .before .before .scan-columns .ensures),
-        swept-most p (a .y0) (a .rows) (a .x) (a .n) true (a .rows) _ (c .before .before .before .scan-columns2 .ensures),
+        swept-most p (a .y0) (a .m) (a .x) (a .n) true (a .m) _ (c .before .before .before .scan-columns2 .ensures),
       ),
     )
 
@@ -65,8 +65,8 @@ returns-2 c =
     let a = c .before .before .before .before .before .before .before .before .before .before .before .before .before .before .before
     .before .before .args in
     let p = memberAt (a .want) (a .w) (now (a .s)) (now (a .levels)) (now (a .labels)) in
-    wrote-ext _ (columnsFrom 4 p (a .y0) (a .rows) (a .x) (a .n))
-    (columns-are p (a .y0) (a .rows) (a .x) (a .n) _ _
+    wrote-ext _ (columnsFrom 4 p (a .y0) (a .m) (a .x) (a .n))
+    (columns-are p (a .y0) (a .m) (a .x) (a .n) _ _
     (c .before .before .before .before .before .before .before .before .before .before .before .scan-columns .ensures)
     (c .before .before .before .before .before .before .scan-columns2 .ensures)) (c .before .before .put-columns .ensures)
 

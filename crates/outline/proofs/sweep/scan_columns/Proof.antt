@@ -1,20 +1,15 @@
 -- `outline::sweep::scan_columns` meets its contract. The loop's invariant (`Swept`): the states are those after k rows, and the thresholds
 -- are those of row y. The measure is rows - k. Assumes nothing.
 use mathlib.Core.Path.{_≡_, subst}
-use Prim.Native.Nat.{_*_, ℕ, _-_, _≤_, _<_, _+_, _/_}
-use native.Mathlib.Nat.{mul-le-mul}
+use Prim.Native.Nat.{ℕ, _-_, _≤_, _<_, _+_, _/_}
 use native.Mathlib.Omega.{arith}
 use denote.Ref.{now}
 use borrow.Author.Needs.{needs}
 use Rattle.boundary.specs.Boundary.{memberAt}
 use Rattle.outline.specs.Scan.{Swept, CutRow}
-use Rattle.outline.proofs.Cuts.{row-within}
-use Rattle.outline.proofs.Sweeps.{swept-most, part-short, part-at-most, part-turn, swept-early}
+use Rattle.outline.proofs.Sweeps.{swept-most, swept-turn, swept-early}
 use Rattle.outline.proofs.sweep.scan_columns.Statement.{statement}
 use Rattle.outline.proofs.sweep.scan_columns.Tie as tie
-
--- `outline::sweep::scan_columns` meets its contract. The loop's invariant (`Swept`): the states are those after k rows, and the thresholds
--- are those of row y. The measure is rows - k. Assumes nothing.
 
 abbrev Inv-loop : tie.InvT-loop
 Inv-loop s levels labels want w h x n y0 rows back state₀ cuts₀ y₀ k₀ state cuts y k =
@@ -32,110 +27,69 @@ fill-cuts-requires c κs = search needs
 
 loop-holds : tie.Need-loop-holds Inv-loop μ-loop
 loop-holds c =
-    let e = c .before .before .before .before .before .before in
-    (omega arith, c .before .before .place .ensures .1, c .fill-cuts .ensures, e .pre .1 .1)
+    (omega arith, c .before .before .place .ensures .1, c .fill-cuts .ensures, c .before .before .before .before .before .before .pre .1 .1)
 
 place-requires-2 : tie.Need-place-requires-2 Inv-loop μ-loop
 place-requires-2 c κs = search needs
 
 refill-requires : tie.Need-refill-requires Inv-loop μ-loop
 refill-requires c κs =
-    let e = c .before .before .before .before .before .before .before .before .before .before in
-    let q = c .before .before .before .loop in
-    (e .pre .0, ((e .pre .1 .0 .1, e .pre .1 .0 .2, e .pre .1 .0 .3, omega arith), q .inv .2))
+    let p = c .before .before .before .before .before .before .before .before .before .before .pre in
+    (p .0, ((p .1 .0 .0 .across, p .1 .0 .1, p .1 .0 .2, omega (arith, p .1 .0 .0)), c .before .before .before .loop .inv .2))
 
-mul-a : tie.Need-mul-a Inv-loop μ-loop
-mul-a c =
-    let a = c .before .before .before .before .before .before .before .before .before .before .before .args in
-    let y = c .before .before .place2 .result in
-    omega (arith, mul-le-mul {n₁ = y} {m₁ = a .w} {n₂ = 4096} {m₂ = 4096} (omega arith) (omega arith))
+cast-sweep-row : tie.Need-cast-sweep-row Inv-loop μ-loop
+cast-sweep-row c =
+    let p = c .before .before .before .before .before .before .before .before .before .before .before .before .before .pre in
+    omega (arith, p .0, p .1 .0 .0)
 
-add-a : tie.Need-add-a Inv-loop μ-loop
-add-a c =
-    let a = c .before .before .before .before .before .before .before .before .before .before .before .args in
-    let y = c .before .before .place2 .result in
-    omega (arith, mul-le-mul {n₁ = y} {m₁ = a .w} {n₂ = 4096} {m₂ = 4096} (omega arith) (omega arith))
-
-add-step-row : tie.Need-add-step-row Inv-loop μ-loop
-add-step-row c =
-    let a = c .before .before .before .before .before .before .before .before .before .before .before .args in
-    let y = c .before .before .place2 .result in
-    omega (arith, mul-le-mul {n₁ = y} {m₁ = a .w} {n₂ = 4096} {m₂ = 4096} (omega arith) (omega arith))
-
-sub-step-row : tie.Need-sub-step-row Inv-loop μ-loop
-sub-step-row c = search needs
-
-part-step-row-start : tie.Need-part-step-row-start Inv-loop μ-loop
-part-step-row-start c = search needs
-
-part-step-row-end : tie.Need-part-step-row-end Inv-loop μ-loop
-part-step-row-end c =
-    let e = c .before .before .before .before .before .before .before .before .before .before .before in
+sweep-row-requires : tie.Need-sweep-row-requires Inv-loop μ-loop
+sweep-row-requires c κs =
+    let e = c .before .before .before .before .before .before .before .before .before .before .before .before .before in
     let a = e .args in
-    let y = c .before .before .place2 in
-    omega (arith, row-within (a .x) (a .n) (y .result) (a .w) (a .h) (omega arith) (omega arith), e .pre .1 .0 .0)
-
-cast-step-row : tie.Need-cast-step-row Inv-loop μ-loop
-cast-step-row c = search needs
-
-step-row-requires : tie.Need-step-row-requires Inv-loop μ-loop
-step-row-requires c κs =
-    let e = c .before .before .before .before .before .before .before .before .before .before .before .before .before .before in
-    let a = e .args in
-    let q = c .before .before .before .before .before .before .before .loop in
-    let y = c .before .before .before .before .before .place2 in
-    let m = memberAt (a .want) (a .w) (now (a .s)) (now (a .levels)) (now (a .labels)) in (
-      (part-short (y .result * a .w + a .x) (a .n) (now (a .s)) (e .pre .1 .0 .3), q .inv .3 .size, omega arith),
-      part-at-most (y .result * a .w + a .x) (a .n) (now (a .s)) (q .state)
-          (λ i l. omega (arith, swept-most m (a .y0) (a .rows) (a .x) (a .n) (a .back) (q .k) (q .state) (q .inv .3) i l)),
+    let g = e .pre .0 in
+    let p = e .pre .1 .0 in
+    let q = c .before .before .before .before .before .before .loop in
+    let m = memberAt (a .want) (a .w) (now (a .s)) (now (a .levels)) (now (a .labels)) in
+    let most = swept-most m (a .y0) (a .rows) (a .x) (a .n) (a .back) (q .k) (q .state) (q .inv .3) in (
+      (p .0 .bytes, g .wide, g .high, p .0 .across, omega (arith, p .0)),
+      (p .2, q .inv .3 .size, omega (arith, p .0, g), λ i l. omega (arith, most i l, p .0, g)),
     )
 
 add-k : tie.Need-add-k Inv-loop μ-loop
-add-k c = search needs
+add-k c =
+    let p = c .before .before .before .before .before .before .before .before .before .before .before .before .before .before .pre in
+    omega (arith, p .0, p .1 .0 .0)
 
 all-found-requires : tie.Need-all-found-requires Inv-loop μ-loop
 all-found-requires c κs =
-    c .before .before .before .before .before .before .before .before .before .before .before .before .before .before .before .before .pre
-    .1 .0 .3
+    c .before .before .before .before .before .before .before .before .before .before .before .before .before .before .before .pre .1 .0 .2
 
 returns : tie.Need-returns Inv-loop μ-loop
 returns c =
-    let e = c .before .before .before .before .before .before .before .before .before .before .before .before .before .before .before
-    .before .before .before in
-    let a = e .args in
-    let q = c .before .before .before .before .before .before .before .before .before .before .before .loop in
-    let y = c .before .before .before .before .before .before .before .before .before .place2 in
-    let cuts = c .before .before .before .before .before .before .before .refill in
-    let r = c .before .before .before .step-row in
-    let m = memberAt (a .want) (a .w) (now (a .s)) (now (a .levels)) (now (a .labels)) in
-    let w = row-within (a .x) (a .n) (y .result) (a .w) (a .h) (e .pre .1 .0 .1) (omega arith) in
-    let v = part-turn (a .want) (a .w) (now (a .s)) (now (a .levels)) (now (a .labels)) (a .y0) (a .rows) (a .x) (a .n) (a .back) (q .k)
-    (q .state) _ (y .result) _ (q .inv .3) (cuts .ensures) (y .ensures .0) (omega (arith, w, e .pre .1 .0 .0)) (r .ensures .size)
-    (r .ensures .done) in
-    swept-early m (a .y0) (a .rows) (a .x) (a .n) (a .back) (q .k + 1) _ v (c .before .all-found .ensures (c .if1 .taken))
-    (omega (arith, c .before .before .before .before .before .before .before .before .before .before .loop-test))
+    let d = c .before .before .before .before .before .before .before .before .before .before in
+    let a = d .before .before .before .before .before .before .before .args in
+    let q = d .loop in
+    let y = c .before .before .before .before .before .before .before .before .place2 in
+    let test = c .before .before .before .before .before .before .before .before .before .loop-test in
+    let cuts = c .before .before .before .before .before .before .refill .ensures in
+    let v = swept-turn (a .want) (a .w) (now (a .s)) (now (a .levels)) (now (a .labels)) (a .y0) (a .rows) (a .x) (a .n) (a .back) (q .k)
+    (q .state) _ (y .result) _ (q .inv .3) cuts (y .ensures .0) (c .before .before .before .sweep-row .ensures) in
+    swept-early (memberAt (a .want) (a .w) (now (a .s)) (now (a .levels)) (now (a .labels))) (a .y0) (a .rows) (a .x) (a .n) (a .back)
+    (q .k + 1) _ v (c .before .all-found .ensures (c .if1 .taken)) (omega (arith, test))
 
 loop-less : tie.Need-loop-less Inv-loop μ-loop
 loop-less c = search needs
 
 loop-again : tie.Need-loop-again Inv-loop μ-loop
 loop-again c =
-    let e = c .before .before .before .before .before .before .before .before .before .before .before .before .before .before .before
-    .before .before .before in
-    let a = e .args in
-    let q = c .before .before .before .before .before .before .before .before .before .before .before .loop in
-    let y = c .before .before .before .before .before .before .before .before .before .place2 in
-    let cuts = c .before .before .before .before .before .before .before .refill in
-    let r = c .before .before .before .step-row in
-    let w = row-within (a .x) (a .n) (y .result) (a .w) (a .h) (e .pre .1 .0 .1) (omega arith) in
-    let v = part-turn (a .want) (a .w) (now (a .s)) (now (a .levels)) (now (a .labels)) (a .y0) (a .rows) (a .x) (a .n) (a .back) (q .k)
-    (q .state) _ (y .result) _ (q .inv .3) (cuts .ensures) (y .ensures .0) (omega (arith, w, e .pre .1 .0 .0)) (r .ensures .size)
-    (r .ensures .done) in (
-      omega (arith, c .before .before .before .before .before .before .before .before .before .before .loop-test),
-      y .ensures .1,
-      cuts .ensures,
-      v,
-    )
+    let d = c .before .before .before .before .before .before .before .before .before .before in
+    let a = d .before .before .before .before .before .before .before .args in
+    let q = d .loop in
+    let y = c .before .before .before .before .before .before .before .before .place2 in
+    let cuts = c .before .before .before .before .before .before .refill .ensures in
+    let v = swept-turn (a .want) (a .w) (now (a .s)) (now (a .levels)) (now (a .labels)) (a .y0) (a .rows) (a .x) (a .n) (a .back) (q .k)
+    (q .state) _ (y .result) _ (q .inv .3) cuts (y .ensures .0) (c .before .before .before .sweep-row .ensures) in
+    (omega (arith, c .before .before .before .before .before .before .before .before .before .loop-test), y .ensures .1, cuts, v)
 
 returns-2 : tie.Need-returns-2 Inv-loop μ-loop
 returns-2 c =
@@ -156,14 +110,8 @@ scan-columns-spec =
     loop-holds
     place-requires-2
     refill-requires
-    mul-a
-    add-a
-    add-step-row
-    sub-step-row
-    part-step-row-start
-    part-step-row-end
-    cast-step-row
-    step-row-requires
+    cast-sweep-row
+    sweep-row-requires
     add-k
     all-found-requires
     returns

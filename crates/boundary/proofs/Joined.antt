@@ -1,0 +1,34 @@
+-- Lists one after the other: joined-more, joined-add, joined-ext, joined-le. Assumes nothing.
+use mathlib.Core.Path.{_≡_, refl, sym, ap, _∙_}
+use mathlib.Core.List.{List, _++_, append-assoc, append-nil}
+use Prim.Native.Nat.{ℕ, zero, suc, _+_, _*_, _≤_, _<_}
+use native.Mathlib.Nat.{add-zero, add-suc}
+use native.Mathlib.Numerals.{add-one}
+use native.Mathlib.Omega.{arith}
+use lib.ListN.{length, length-append}
+use Rattle.boundary.specs.Boundary.{joined}
+
+pub joined-more : {A : Type 0} (n : ℕ) (f : ℕ → List A) → joined (n + 1) f ≡ joined n f ++ f n
+unfolding joined
+joined-more n f = rw add-one
+
+pub joined-add : {A : Type 0} (n m : ℕ) (f : ℕ → List A) → joined (n + m) f ≡ joined n f ++ joined m (λ i. f (n + i))
+unfolding joined
+joined-add {A} n zero f = ap (λ (k : ℕ). joined k f) (add-zero n) ∙ sym (append-nil (joined n f))
+joined-add {A} n (suc m) f =
+    ap (λ (k : ℕ). joined k f) (add-suc n m)
+    ∙ ap (λ (l : List A). l ++ f (n + m)) (joined-add n m f)
+    ∙ append-assoc (joined n f) (joined m (λ i. f (n + i))) (f (n + m))
+
+pub joined-ext : {A : Type 0} (n : ℕ) (f g : ℕ → List A) → ((i : ℕ) → i < n → f i ≡ g i) → joined n f ≡ joined n g
+unfolding joined
+joined-ext zero f g same = refl
+joined-ext (suc n) f g same =
+    let ih = joined-ext n f g (λ i l. same i (omega arith)) in
+    let here = same n (omega arith) in
+    cc
+
+pub joined-le : {A : Type 0} (k n : ℕ) (f : ℕ → List A) → ((i : ℕ) → length (f i) ≤ k) → length (joined n f) ≤ k * n
+unfolding joined
+joined-le k zero f few = omega arith
+joined-le k (suc n) f few = rw (length-append (joined n f) (f n)) (omega (arith, joined-le k n f few, few n))
