@@ -7,14 +7,14 @@ use std::cell::RefCell;
 unsafe extern "C" {
     fn lcr_call(kind: u32, args: *const u32, n: usize, out: *mut u32, m: usize) -> usize;
     fn lcr_picture(gray: *const u8, n: usize, w: usize, h: usize, levels: *mut u8, g: usize, labels: *mut u32, l: usize,
-        stack: *mut u32, k: usize, regions: *mut u32, m: usize) -> u32;
+        stack: *mut u32, k: usize, regions: *mut u32) -> u32;
     fn lcr_outline(gray: *const u8, n: usize, levels: *const u8, g: usize, labels: *const u32, l: usize, want: u32, w: usize, h: usize,
         x0: usize, y0: usize, x1: usize, y1: usize, out: *mut f32, m: usize, points: *mut usize) -> u32;
     fn lcr_convex_hull(p: *const f32, n: usize, out: *mut f32, m: usize, vertices: *mut usize) -> u32;
     fn lcr_quad(p: *const f32, n: usize, quad: *mut f32) -> u32;
     fn lcr_attempt(gray: *const u8, n: usize, w: usize, h: usize, points: *const f32, m: usize, most: u8,
         straight: *mut f32, a: usize, cand: *mut f32, b: usize, buf: *mut f32, c: usize, hull: *mut usize, found: *mut bool,
-        quad: *mut f32, tried: *mut usize, scores: *mut f32, s: usize, fix: *mut f64, fallback: *mut f64) -> u32;
+        quad: *mut f32, tried: *mut usize, scores: *mut f32, fix: *mut f64, fallback: *mut f64) -> u32;
 }
 
 const MARK: u32 = 0xdead_beef;
@@ -63,7 +63,7 @@ impl Grids {
         unsafe {
             lcr_picture(
                 g.as_ptr(), g.len(), w, h, a.as_mut_ptr(), a.len(), b.as_mut_ptr(), b.len(), c.as_mut_ptr(), c.len(),
-                self.regions.as_mut_ptr(), 26,
+                self.regions.as_mut_ptr(),
             )
         }
     }
@@ -127,7 +127,7 @@ impl Ring {
             lcr_attempt(
                 g.as_ptr(), g.len(), w, h, points.as_ptr(), points.len(), most, a.as_mut_ptr(), a.len(), b.as_mut_ptr(), b.len(),
                 c.as_mut_ptr(), c.len(), &mut self.hull, &mut self.found, self.quad.as_mut_ptr(), &mut self.tried,
-                self.scores.as_mut_ptr(), self.scores.len(), fix.as_mut_ptr(), fallback.as_mut_ptr(),
+                self.scores.as_mut_ptr(), fix.as_mut_ptr(), fallback.as_mut_ptr(),
             )
         };
         self.refused

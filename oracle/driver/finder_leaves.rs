@@ -20,7 +20,7 @@ unsafe extern "C" {
     fn lcr_with_radial(t: *mut f64, cx: f32, cy: f32, kappa: f32) -> u32;
     fn lcr_apply(t: *const f64, u: f32, v: f32, x: *mut f32, y: *mut f32) -> u32;
     fn lcr_apply_all(t: *const f64, uv: *const f32, n: usize, xy: *mut f32, m: usize) -> u32;
-    fn lcr_listing(record: *const u8, n: usize, text: *mut u8, m: usize, len: *mut usize) -> u32;
+    fn lcr_listing(record: *const u8, n: usize, text: *mut u8, len: *mut usize) -> u32;
     fn lcr_classify(version: u8, lumas: *const f32, n: usize, marks: *mut bool, m: usize) -> u32;
     fn lcr_correlate(version: u8, marks: *const bool, n: usize, score: *mut f32, corner: *mut usize, reversed: *mut bool, counts: *mut u16) -> u32;
     fn lcr_refine_quad(p: *const f32, n: usize, q: *mut f32, m: usize, buf: *mut f32, k: usize) -> u32;
@@ -128,7 +128,7 @@ fn cell_words(kind: u32, args: &[u32]) -> Vec<u32> {
 fn listing_words(args: &[u32]) -> Vec<u32> {
     let record = Words(&args[1..]).bytes(args[0] as usize).unwrap();
     let (mut text, mut len) = (vec![0u8; 512], 0);
-    let refused = unsafe { lcr_listing(record.as_ptr(), record.len(), text.as_mut_ptr(), text.len(), &mut len) };
+    let refused = unsafe { lcr_listing(record.as_ptr(), record.len(), text.as_mut_ptr(), &mut len) };
     if refused != 0 {
         text = format!("refused {refused}\n").into_bytes();
         len = text.len();

@@ -1,10 +1,31 @@
-// Corners and the lens for C and Rust. Points are x and y by turns, at most 16,384 of them; a quad
-// is the eight numbers of its corners; each working list is at least as long as that of the points.
-// The result is 0 where an answer is given, 255 where there is none or a list does not fit.
+// Inner entries, kept to compare them with other programs; no part of the interface, and not in
+// include/lcr_ring.h: entries by number, the f32 root, f64 to f32, corners and the lens.
+//
+// Of corners and the lens: points are x and y by turns, at most 16,384 of them; a quad is the eight
+// numbers of its corners; each working list is at least as long as that of the points. The result
+// is 0 where an answer is given, 255 where there is none or a list does not fit.
 use hull::points::Corners;
 use hull::points::Point;
 use hull::points::Quad;
 
+// One entry by its number (see crate `calls`): the words of its answer, first in `out`, and how
+// many.
+#[no_mangle]
+pub extern "C" fn lcr_call(kind: u32, args: &[u32], out: &mut [u32]) -> usize {
+    calls::call(kind, args, out)
+}
+
+// The root of an f32.
+#[no_mangle]
+pub extern "C" fn lcr_root(x: f32) -> f32 {
+    ieee::root(x)
+}
+
+// The f32 nearest to an f64.
+#[no_mangle]
+pub extern "C" fn lcr_narrowed(x: f64) -> f32 {
+    ieee::narrowed(x)
+}
 // The quad of eight numbers.
 fn quad(q: [f32; 8]) -> Quad {
     Quad {
@@ -32,7 +53,7 @@ fn put(q: Quad, out: &mut [f32]) {
 
 // `refine_quad` of q, in its place.
 #[no_mangle]
-pub extern "C" fn lcr_refine_quad(s: &[f32], q: &mut [f32], buf: &mut [f32]) -> u8 {
+pub extern "C" fn lcr_refine_quad(s: &[f32], q: &mut [f32], buf: &mut [f32]) -> u32 {
     if q.len() < 8 {
         return 255;
     }
@@ -49,7 +70,12 @@ pub extern "C" fn lcr_refine_quad(s: &[f32], q: &mut [f32], buf: &mut [f32]) -> 
 
 // `edge_quad` of q, in its place.
 #[no_mangle]
-pub extern "C" fn lcr_edge_quad(s: &[f32], q: &mut [f32], cand: &mut [f32], buf: &mut [f32]) -> u8 {
+pub extern "C" fn lcr_edge_quad(
+    s: &[f32],
+    q: &mut [f32],
+    cand: &mut [f32],
+    buf: &mut [f32],
+) -> u32 {
     if q.len() < 8 {
         return 255;
     }
@@ -78,7 +104,7 @@ pub extern "C" fn lcr_estimate_lens(
     q: &mut [f32],
     straight: &mut [f32],
     buf: &mut [f32],
-) -> u8 {
+) -> u32 {
     if q.len() < 11 {
         return 255;
     }

@@ -1,9 +1,9 @@
--- `exports::fits::put` meets its contract: each store leaves the list as long as it was. Assumes nothing.
+-- `exports::inner::put` meets its contract: each store leaves the list as long as it was. Assumes nothing.
 use native.Mathlib.Omega.{arith}
 use lib.ListN.{length-set}
 use borrow.Author.Needs.{needs}
-use Rattle.exports.proofs.fits.put.Statement.{statement}
-use Rattle.exports.proofs.fits.put.Tie as tie
+use Rattle.exports.proofs.inner.put.Statement.{statement}
+use Rattle.exports.proofs.inner.put.Tie as tie
 
 returns : tie.Need-returns
 returns c = search needs
