@@ -6,7 +6,6 @@
 //                        in an accepted call, from 0 on in a refused one
 // At most 1,048,576 bytes and 32,770 places of each list. Before the call place k of a working list
 // holds k modulo 1,000.
-ghost use mathlib.Core.Path.{_≡_};
 ghost use Prim.Native.Nat.{_+_, _≤_};
 ghost use lib.ListN.{length};
 use ring::door::Answer;
@@ -14,13 +13,6 @@ use ring::door::Outcome;
 use words::floats;
 
 pub mod traces;
-
-// Room for the longest list.
-fn list_room() -> [f32; 32770]
-    ensures { λ r. ⌜ 32770 ≡ length r ⌝ }
-{
-    [0f32; 32770]
-}
 
 // What place k of a lent list holds before the call.
 fn lent(k: usize) -> f32 {
@@ -70,7 +62,7 @@ fn of_bytes(kind: u32, args: &[u32], gray: &[u8], out: &mut [u32]) -> usize
     if 32770 < m {
         return 0;
     }
-    let mut points = list_room();
+    let mut points = packed::list_room();
     read(args, gray.len(), &mut points[..m]);
     of_points(kind, args, gray, &points[..m], out)
 }
@@ -90,9 +82,9 @@ fn of_points(kind: u32, args: &[u32], gray: &[u8], points: &[f32], out: &mut [u3
     if 32770 < c {
         return 0;
     }
-    let mut x = list_room();
-    let mut y = list_room();
-    let mut z = list_room();
+    let mut x = packed::list_room();
+    let mut y = packed::list_room();
+    let mut z = packed::list_room();
     made(
         kind,
         args,

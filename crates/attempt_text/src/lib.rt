@@ -7,44 +7,13 @@
 // agreement` and eleven f64; `fallback` likewise. Floats are the hex of their bits, a NaN `nan`.
 //
 // At most 1,048,576 pixel bytes; a cut or longer record is `refused 13`.
-ghost use mathlib.Core.Path.{_≡_};
 ghost use Prim.Native.Nat.{_≤_};
 ghost use lib.ListN.{length};
+use packed::word_at;
 use words::floats;
 
 pub mod digits;
 pub mod lines;
-
-// Room for the longest list, with two numbers that make it too long.
-fn list_room() -> [f32; 32770]
-    ensures { λ r. ⌜ 32770 ≡ length r ⌝ }
-{
-    [0f32; 32770]
-}
-
-// A byte as a number.
-fn wide(b: u8) -> u32
-    ensures { λ r. ⌜ r ≤ 255 ⌝ }
-{
-    b as u32
-}
-
-// The byte at a place; 0 past the end.
-fn byte(s: &[u8], k: usize) -> u32
-    ensures { λ r. ⌜ r ≤ 255 ⌝ }
-{
-    if k < s.len() {
-        return wide(s[k]);
-    }
-    0
-}
-
-// The word of the four bytes from a place on, lowest first.
-fn word(s: &[u8], k: usize) -> u32
-    requires { ⌜ k ≤ 2000000 ⌝ }
-{
-    byte(s, k) + byte(s, k + 1) * 256 + byte(s, k + 2) * 65536 + byte(s, k + 3) * 16777216
-}
 
 // The numbers of a list whose bytes begin at a place.
 fn read(s: &[u8], from: usize, list: &mut [f32])
@@ -52,19 +21,9 @@ fn read(s: &[u8], from: usize, list: &mut [f32])
 {
     let mut k: usize = 0;
     while k < list.len() {
-        list[k] = floats::f32_of(word(s, from + 4 * k));
+        list[k] = floats::f32_of(word_at(s, from + 4 * k));
         k += 1;
     }
-}
-
-// A number of the list's numbers, or 32,770 where there are more.
-fn capped(m: usize) -> usize
-    ensures { λ r. ⌜ r ≤ 32770 ⌝ }
-{
-    if 32770 < m {
-        return 32770;
-    }
-    m
 }
 
 // A greatest version as a byte, or 255 where it is more.
@@ -80,7 +39,7 @@ pub fn text(record: &[u8], out: &mut [u8]) -> usize {
     if record.len() < 20 {
         return lines::refused(13, out);
     }
-    let n = words::many(word(record, 12));
+    let n = words::many(word_at(record, 12));
     if 1048576 < n {
         return lines::refused(13, out);
     }
@@ -88,22 +47,22 @@ pub fn text(record: &[u8], out: &mut [u8]) -> usize {
     if record.len() < end {
         return lines::refused(13, out);
     }
-    let m = capped(words::many(word(record, 16)));
+    let m = words::at_most(words::many(word_at(record, 16)), 32770);
     if record.len() - end < 4 * m {
         return lines::refused(13, out);
     }
-    let mut points = list_room();
+    let mut points = packed::list_room();
     read(record, end, &mut points[..m]);
     of_points(record, &record[20..end], &points[..m], out)
 }
 
 fn of_points(record: &[u8], gray: &[u8], points: &[f32], out: &mut [u8]) -> usize {
-    let mut x = list_room();
-    let mut y = list_room();
-    let mut z = list_room();
-    let w = words::many(word(record, 0));
-    let h = words::many(word(record, 4));
-    let most = version(word(record, 8));
+    let mut x = packed::list_room();
+    let mut y = packed::list_room();
+    let mut z = packed::list_room();
+    let w = words::many(word_at(record, 0));
+    let h = words::many(word_at(record, 4));
+    let most = version(word_at(record, 8));
     let r = ring::door::attempt(gray, w, h, points, most, &mut x, &mut y, &mut z);
     lines::answered(r, out)
 }

@@ -51,17 +51,12 @@ fn put_corners(out: &mut [u8], at: usize, c: Corners) -> usize {
     }
 }
 
-// 1 for true.
-fn flag(b: bool) -> u32 {
-    if b { 1 } else { 0 }
-}
-
 fn put_score(out: &mut [u8], at: usize, s: Score) -> usize {
     let w = put_word(out, at, b"score");
     let a = put_number(out, w, s.version as u32);
     let b = put32(out, a, s.agreement);
     let c = put_number(out, b, (s.corner % 65536) as u32);
-    let d = put_number(out, c, flag(s.mirrored));
+    let d = put_number(out, c, words::flag(s.mirrored));
     put(out, d, b'\n')
 }
 
@@ -78,18 +73,8 @@ fn put_list(out: &mut [u8], at: usize, list: [Score; 64], n: usize) -> usize
     to
 }
 
-// A number of scores, at most 64.
-fn few(n: usize) -> usize
-    ensures { λ r. ⌜ r ≤ 64 ⌝ }
-{
-    if 64 < n {
-        return 64;
-    }
-    n
-}
-
 fn put_scores(out: &mut [u8], at: usize, s: Scores) -> usize {
-    let n = few(s.many);
+    let n = words::at_most(s.many, 64);
     let a = counted(out, at, b"scores", n as u32);
     let list = s.list;
     put_list(out, a, list, n)

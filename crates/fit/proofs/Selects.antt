@@ -1,8 +1,7 @@
--- A selection in progress, what its caller makes of it, and uses of a working list one after the other. Assumes nothing.
+-- A selection in progress, and what its caller makes of it. Assumes nothing.
 --   Selecting                                          after k points: how many are held, what they are, and what is untouched
 --   selecting-begin, selecting-turn, selecting-end     at the beginning, with one point more, at the end
 --   kept-half, kept-front, kept-same, kept-past        of a selection that is done: how many, which, the list's length, its rest
---   past-none, past-then, past-more                    a working list untouched past n: without a use, after two, past more
 use mathlib.Core.Path.{_≡_, refl, sym, ap, _∙_, subst}
 use mathlib.Core.Bool.{Bool, true, false, cond}
 use mathlib.Core.List.{List, [], _∷_, _++_, append-assoc, append-nil}
@@ -10,12 +9,14 @@ use Prim.Native.Nat.{ℕ, suc, _+_, _-_, _*_, _/_, _≤_, _<_}
 use native.Mathlib.Nat.{sub-zero}
 use native.Mathlib.Omega.{arith}
 use lib.ListN.{length, getD, set, take, drop, length-set, length-append, length-drop, take-append-drop}
-use lib.Seq.{take-suc-set, drop-set-lt, length-take-le, drop-at, take-at, drop-drop}
+use lib.Seq.{take-suc-set, drop-set-lt, length-take-le, take-at}
 use lib.Ieee.{Float, nan}
+use Rattle.laws.proofs.Past.{drop-more, past-front}
 use Rattle.laws.proofs.Steps.{one-less, none-left}
 use Rattle.hull.specs.Points.{many}
 use Rattle.fit.specs.F32.{xOf, yOf}
-use Rattle.fit.specs.Select.{Held, putOf, Rule, keptOn, keptOf, KeptIn, UntouchedPast}
+use Rattle.fit.specs.Select.{Held, putOf, Rule, keptOn, keptOf, KeptIn}
+use Rattle.laws.specs.Lent.{UntouchedPast}
 
 -- After k points of s the list holds m of them, and the rest of the definition is what is still to be kept.
 pub record Selecting (r : Rule) (s old list : List Float) (k m : ℕ) : Type 0 where
@@ -51,16 +52,6 @@ push-take l i x y h =
 
 push-drop : (l : List Float) (i : ℕ) (x y : Float) → drop (i + 2) (set (set l i x) (i + 1) y) ≡ drop (i + 2) l
 push-drop l i x y = drop-set-lt (i + 2) (set l i x) (i + 1) y (omega arith) ∙ drop-set-lt (i + 2) l i x (omega arith)
-
--- drop further on
-drop-more : (i j : ℕ) (a b : List Float) → i ≤ j → drop i a ≡ drop i b → drop j a ≡ drop j b
-drop-more i j a b h e =
-    let z : j ≡ i + (j - i) = omega arith in
-    ap (λ (n : ℕ). drop n a) z
-    ∙ sym (drop-drop (j - i) i a)
-    ∙ ap (drop (j - i)) e
-    ∙ drop-drop (j - i) i b
-    ∙ ap (λ (n : ℕ). drop n b) (sym z)
 
 module _ (r : Rule) (s : List Float) (k : ℕ) where
   -- point k as the rule keeps it, and what is kept after it
@@ -169,26 +160,4 @@ module _ {n : ℕ} {kept old new : List Float} {m : ℕ} (q : KeptIn n kept old 
       length-take-le (2 * m) new (omega arith)
 
   pub kept-past : n ≤ length old → UntouchedPast n old new
-  kept-past h =
-      let f = q .few in
-      let over : n ≡ 2 * m + (n - 2 * m) = omega arith in
-      record {
-        same = kept-same h;
-        past =
-            ap (λ (k : ℕ). drop k new) over
-            ∙ sym (drop-drop (n - 2 * m) (2 * m) new)
-            ∙ ap (λ (l : List Float). drop (n - 2 * m) (drop (2 * m) l)) (q .list)
-            ∙ ap (drop (n - 2 * m)) (drop-at kept (drop (2 * m) old) (2 * m) (q .count))
-            ∙ drop-drop (n - 2 * m) (2 * m) old
-            ∙ ap (λ (k : ℕ). drop k old) (sym over);
-      }
-
--- ---- uses of a working list
-pub past-none : (n : ℕ) (l : List Float) → UntouchedPast n l l
-past-none n l = record { same = refl; past = refl }
-
-pub past-then : {n : ℕ} {a b c : List Float} → UntouchedPast n a b → UntouchedPast n b c → UntouchedPast n a c
-past-then p q = record { same = q .same ∙ p .same; past = q .past ∙ p .past }
-
-pub past-more : {i : ℕ} {a b : List Float} (j : ℕ) → i ≤ j → UntouchedPast i a b → UntouchedPast j a b
-past-more {i} {a} {b} j h q = record { same = q .same; past = drop-more i j b a h (q .past) }
+  kept-past h = let f = q .few in past-front n (2 * m) kept old (q .few) (omega arith) (q .count) (q .list)

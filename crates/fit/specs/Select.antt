@@ -60,8 +60,3 @@ pub record KeptIn (n : ℕ) (kept before after : List Float) (r : ℕ) : Type 0 
   pub few : 2 * r ≤ n
   pub list : after ≡ kept ++ drop (2 * r) before
   pub count : length kept ≡ 2 * r
-
--- A working list of which the places from n on are untouched.
-pub record UntouchedPast (n : ℕ) (before after : List Float) : Type 0 where
-  pub same : length after ≡ length before
-  pub past : drop n after ≡ drop n before

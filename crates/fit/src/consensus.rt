@@ -6,7 +6,8 @@ use hull::points::Point;
 ghost use mathlib.Core.Path.{_≡_};
 ghost use Prim.Native.Nat.{_+_, _/_, _%_, _<_, _≤_};
 ghost use lib.ListN.{length};
-ghost use Rattle.fit.specs.Select.{KeptIn, UntouchedPast};
+ghost use Rattle.fit.specs.Select.{KeptIn};
+ghost use Rattle.laws.specs.Lent.{UntouchedPast};
 ghost use Rattle.fit.specs.Consensus.{searchNear, searchOf, oneIf, agreeOf, trialAt, trialOf};
 ghost use Rattle.fit.specs.Consensus.{trialsOf, consensusOf, edgeLine};
 

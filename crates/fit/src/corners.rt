@@ -9,7 +9,7 @@ use hull::points::Quad;
 ghost use mathlib.Core.Path.{_≡_};
 ghost use Prim.Native.Nat.{_≤_};
 ghost use lib.ListN.{length};
-ghost use Rattle.fit.specs.Select.{UntouchedPast};
+ghost use Rattle.laws.specs.Lent.{UntouchedPast};
 ghost use Rattle.fit.specs.Corner.{edgeOf, d2Of, hullLine, nearCorner, cornersOf, orQuad};
 ghost use Rattle.fit.specs.Corner.{afterLine, refinedAt, refinedOf, sameCorner, sameOf};
 

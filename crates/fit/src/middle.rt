@@ -7,7 +7,8 @@ ghost use Prim.Native.Nat.{_+_, _*_, _≤_};
 ghost use lib.ListN.{length};
 ghost use lib.Ieee.{le};
 ghost use Rattle.ieee.specs.Ops.{abs};
-ghost use Rattle.fit.specs.Select.{putOf, alongEdge, within, offOf, KeptIn, UntouchedPast};
+ghost use Rattle.fit.specs.Select.{putOf, alongEdge, within, offOf, KeptIn};
+ghost use Rattle.laws.specs.Lent.{UntouchedPast};
 ghost use Rattle.fit.specs.Line.{nearLine, middleOf, passOf, refitOf};
 
 // Puts a kept point at place m of the points of a list.

@@ -6,11 +6,12 @@ use mathlib.Core.Path.{_∙_, _≡_, ap, refl, subst, sym}
 use Prim.Native.Nat.{_+_, _-_, _<_, _≤_, min, ℕ}
 use native.Mathlib.Omega.{arith}
 use lib.ListN.{drop, getD, length, length-append, length-drop, replicate, take}
-use lib.Seq.{drop-append-add, drop-drop, length-take-le}
+use lib.Seq.{length-take-le}
 use Rattle.labels.proofs.FillLaws.{Outer, outer-begin, outer-end, outer-mark, outer-skip}
 use Rattle.labels.proofs.VisitLaws.{marked-in}
 use Rattle.labels.specs.Labelling.{Answers, Inked, Labels, One, cleared, filled, given, numbered, short, skipped, stopped}
 use Rattle.labels.specs.Visits.{Flooded, MARK}
+use Rattle.laws.proofs.Past.{past-front}
 use Rattle.laws.proofs.Bools.{which}
 use Rattle.laws.proofs.Counts.{count-most, count-step}
 use Rattle.laws.proofs.Folds.{is-tab}
@@ -119,17 +120,6 @@ pub labels-full : {w n : ℕ} {l st l′ : List ℕ} {r : Next} → Labels w n l
 labels-full (numbered f) e = absurd (let z : _≡_ {A = ℕ} 0 1 = cc in omega arith)
 labels-full (short h) e = h
 
--- the places past n of a list of which fewer are lent
-pub past-front : (n m : ℕ) (l part : List ℕ) → m ≤ n → m ≤ length l → length part ≡ m → UntouchedPast n l (part ++ drop m l)
-past-front n m l part few room long = record {
-  same = length-append part (drop m l) ∙ ap (λ (k : ℕ). length part + k) (length-drop m l) ∙ omega arith;
-  past =
-      let e : n ≡ length part + (n - m) = omega arith in
-      let f : m + (n - m) ≡ n = omega arith in
-      ap (λ (k : ℕ). drop k (part ++ drop m l)) e ∙ drop-append-add part (drop m l) (n - m) ∙ drop-drop (n - m) m l
-      ∙ ap (λ (k : ℕ). drop k l) f;
-}
-
 pub answers-given : (w n m : ℕ) (l st l₁ st₁ : List ℕ) {r : Next} {v : ℕ} → n ≤ length l → m ≡ min n (length st)
     → Labels w n (take n l) (take m st) l₁ r → r ≡ At v → length l₁ ≡ length (take n l) → length st₁ ≡ length (take m st)
     → Answers w n l st (l₁ ++ drop n l) (st₁ ++ drop m st) (At v)
@@ -138,7 +128,7 @@ answers-given w n m l st l₁ st₁ room em a e same same-stack =
     (λ ink h.
     let q = labels-at a e ink h in
     (ap (λ (t : List ℕ). t ++ drop n l) (is-tab n (label ink (near w) n) l₁ (same ∙ length-take-le n l room) (λ c b. q .0 c)), q .1))
-    (past-front n m st st₁ (omega arith) (omega arith) (same-stack ∙ length-take-le m st (omega arith)))
+    (past-front n m st₁ st (omega arith) (omega arith) (same-stack ∙ length-take-le m st (omega arith)) refl)
 
 pub answers-cleared : (w n m : ℕ) (l st l₁ l₂ st₁ st₂ : List ℕ) {r : Next} → n ≤ length l → m ≡ min n (length st)
     → Labels w n (take n l) (take m st) l₁ r → r ≡ Full → l₂ ≡ zeros (l₁ ++ drop n l) → st₂ ≡ zeros (st₁ ++ drop m st)

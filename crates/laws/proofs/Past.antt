@@ -1,11 +1,11 @@
 -- A lent list that keeps the places past the first n. past-none: without a use; past-then: after two; past-more: past more places;
--- past-written: of which the first n are written; drop-more. Assumes nothing.
+-- past-written: of which the first n are written; past-front: with another part in front; drop-more. Assumes nothing.
 use mathlib.Core.Path.{_≡_, refl, sym, ap, _∙_}
-use mathlib.Core.List.{List}
+use mathlib.Core.List.{List, _++_}
 use Prim.Native.Nat.{ℕ, _+_, _-_, _≤_}
 use native.Mathlib.Omega.{arith}
-use lib.ListN.{length, drop}
-use lib.Seq.{drop-drop}
+use lib.ListN.{length, drop, length-append, length-drop}
+use lib.Seq.{drop-at, drop-drop}
 use Rattle.laws.proofs.Folds.{drop-written, length-written}
 use Rattle.laws.specs.Fold.{written}
 use Rattle.laws.specs.Lent.{UntouchedPast}
@@ -31,3 +31,11 @@ past-more {A} {i} {a} {b} j h q = record { same = q .same; past = drop-more i j 
 
 pub past-written : (n : ℕ) (f : ℕ → ℕ) (old : List ℕ) {new : List ℕ} → n ≤ length old → new ≡ written n f old → UntouchedPast n old new
 past-written n f old room e = record { same = ap length e ∙ length-written n f old room; past = ap (drop n) e ∙ drop-written n f old }
+
+-- m places of the list are another part, and m are no more than n
+pub past-front : {A : Type 0} (n m : ℕ) (part old : List A) {new : List A} → m ≤ n → m ≤ length old → length part ≡ m
+    → new ≡ part ++ drop m old → UntouchedPast n old new
+past-front {A} n m part old few room long e = record {
+  same = ap length e ∙ length-append part (drop m old) ∙ ap (λ (k : ℕ). length part + k) (length-drop m old) ∙ omega arith;
+  past = drop-more m n _ old few (ap (drop m) e ∙ drop-at part (drop m old) m long);
+}

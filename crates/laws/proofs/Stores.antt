@@ -1,5 +1,5 @@
--- Lists with elements stored one after the other, and reads that need no default. sets-append, map-append, laid-is; stored-none, stored-one,
--- stored-append, stored-ext, stored-length, stored-laid; getD-any; below-next. Assumes nothing.
+-- Lists with elements stored one after the other, and reads that need no default. sets-append, map-append, laid-is; stored-none,
+-- stored-one, stored-append, stored-ext, stored-length, stored-laid; getD-any; below-next. Assumes nothing.
 use mathlib.Core.Path.{_≡_, refl, sym, ap, _∙_, subst}
 use mathlib.Core.Logic.{_⊎_, inl, inr}
 use mathlib.Core.List.{List, [], _∷_, _++_, map}

@@ -76,7 +76,11 @@ fn bit_of(byte: u8, k: usize) -> bool
 
 // The marks of a row that starts at `start`, n of them, first in `out`.
 fn fill_marks(ring: &[u8], start: usize, n: usize, out: &mut [bool])
-    requires { ⌜ (start < 4864) × (n < 4096) × (start + (n + 7) / 8 ≤ length (now ring)) × (n ≤ length (now out)) ⌝ }
+    requires { ⌜
+        (start < 4864)
+        × (n < 4096)
+        × (start + (n + 7) / 8 ≤ length (now ring))
+        × (n ≤ length (now out)) ⌝ }
     ensures { λ _. ⌜ RowMarks (now (ring .entry)) start n (now (out .exit)) ⌝ }
 {
     let mut p: usize = 0;

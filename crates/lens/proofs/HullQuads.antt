@@ -8,8 +8,8 @@ use mathlib.Core.Bool.{Bool, true, false}
 use mathlib.Core.List.{List, [], _∷_, _++_}
 use Prim.Native.Nat.{ℕ, zero, suc, _+_, _-_, _*_, _≤_}
 use native.Mathlib.Omega.{arith}
-use lib.ListN.{length, take, drop, length-append, length-drop}
-use lib.Seq.{take-at, drop-at, drop-drop}
+use lib.ListN.{length, take, drop}
+use lib.Seq.{take-at}
 use lib.Ieee.{Float}
 use Rattle.whole.specs.Hull.{range}
 use Rattle.whole.specs.Wrap.{Tests, nxt, wlk, wrap, lst}
@@ -18,7 +18,8 @@ use Rattle.hull.specs.Hull.{hullTests, hullOf, hullFloats}
 use Rattle.hull.specs.Quad.{valuesOf, quadFloats}
 use Rattle.hull.specs.declared.points.Corners.{Corners}
 use Rattle.hull.specs.declared.points.Corners.the-variants.{Found, NoQuad}
-use Rattle.fit.specs.Select.{UntouchedPast}
+use Rattle.laws.proofs.Past.{past-front}
+use Rattle.laws.specs.Lent.{UntouchedPast}
 use Rattle.lens.specs.Estimate.{quadFrom, hullQuad}
 
 -- ---- how many vertices
@@ -56,19 +57,7 @@ module _ (p old new : List Float) (h : ℕ) (eh : h ≡ length (hullOf p (many p
   hull-past room =
       let few = hull-few p in
       let z = long in
-      let n = length p in
-      let f = length (hullFloats p) in
-      let over : n ≡ f + (n - f) = omega arith in
-      record {
-        same = ap length en ∙ simp (length-append, length-drop) (omega arith);
-        past =
-            ap (λ (k : ℕ). drop k new) over
-            ∙ sym (drop-drop (n - f) f new)
-            ∙ ap (λ (l : List Float). drop (n - f) (drop f l)) en
-            ∙ ap (drop (n - f)) (drop-at (hullFloats p) (drop f old) f refl)
-            ∙ drop-drop (n - f) f old
-            ∙ ap (λ (k : ℕ). drop k old) (sym over);
-      }
+      past-front (length p) (length (hullFloats p)) (hullFloats p) old (omega arith) (omega arith) refl en
 
 -- ---- the quad
 pub quad-values : (r : Corners) → quadFrom (valuesOf r) ≡ r

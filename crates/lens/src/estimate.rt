@@ -9,7 +9,7 @@ use hull::points::Quad;
 ghost use mathlib.Core.Path.{_≡_};
 ghost use Prim.Native.Nat.{_≤_};
 ghost use lib.ListN.{length};
-ghost use Rattle.fit.specs.Select.{UntouchedPast};
+ghost use Rattle.laws.specs.Lent.{UntouchedPast};
 ghost use Rattle.lens.specs.Measure.{measureOf};
 ghost use Rattle.lens.specs.Estimate.{afterMeasure, quadMeasures, stepBy, passOf, hullQuad};
 ghost use Rattle.lens.specs.Estimate.{secondOf, endOf, lensOf};
@@ -98,17 +98,6 @@ fn one_pass(s: &[f32], q: Corners, m: Point, kappa: f32, reach: f32, buf: &mut [
     step_by(t, kappa, crate::weigh::reach_of(f, m, reach))
 }
 
-// The quad of the points' hull, whose vertices stand at the beginning of out then.
-pub fn hull_quad(s: &[f32], out: &mut [f32]) -> Corners
-    requires { ⌜ length (now s) ≤ length (now out) ⌝ }
-    ensures { λ r. ⌜ r ≡ hullQuad (now (s .entry)) ⌝ }
-    ensures { λ r. ⌜ UntouchedPast (length (now (s .entry)))
-        (now (out .entry)) (now (out .exit)) ⌝ }
-{
-    let h = hull::convex_hull(s, out);
-    hull::quad(&out[..2 * h])
-}
-
 // One pass over straightened points, with the quad of their hull.
 fn straight_pass(s: &[f32], m: Point, kappa: f32, reach: f32, buf: &mut [f32]) -> Pass
     requires { ⌜ length (now s) ≤ length (now buf) ⌝ }
@@ -117,7 +106,8 @@ fn straight_pass(s: &[f32], m: Point, kappa: f32, reach: f32, buf: &mut [f32]) -
     ensures { λ r. ⌜ UntouchedPast (length (now (s .entry)))
         (now (buf .entry)) (now (buf .exit)) ⌝ }
 {
-    let q = hull_quad(s, buf);
+    let o = crate::outer::outer_of(s, buf);
+    let q = o.quad;
     one_pass(s, q, m, kappa, reach, buf)
 }
 

@@ -3,5 +3,6 @@
 pub mod bow;
 pub mod estimate;
 pub mod measure;
+pub mod outer;
 pub mod straight;
 mod weigh;

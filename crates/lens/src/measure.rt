@@ -7,7 +7,8 @@ use hull::points::Point;
 ghost use mathlib.Core.Path.{_≡_};
 ghost use Prim.Native.Nat.{_≤_};
 ghost use lib.ListN.{length};
-ghost use Rattle.fit.specs.Select.{KeptIn, UntouchedPast};
+ghost use Rattle.fit.specs.Select.{KeptIn};
+ghost use Rattle.laws.specs.Lent.{UntouchedPast};
 ghost use Rattle.lens.specs.Measure.{sideOf, outwardOf, bowNear, samplesOf, bentOf};
 ghost use Rattle.lens.specs.Measure.{measureOf};
 

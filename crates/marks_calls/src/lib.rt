@@ -13,11 +13,6 @@ use words::floats;
 // The longest list of marks or lumas.
 const MOST: usize = 2048;
 
-// A word as a number of places.
-fn many(word: u32) -> usize {
-    word as usize
-}
-
 // Room for the longest list of marks.
 fn room() -> [bool; 2048]
     ensures { λ r. ⌜ 2048 ≡ length r ⌝ }
@@ -30,7 +25,7 @@ pub fn answer(kind: u32, args: &[u32], out: &mut [u32]) -> usize {
         return 0;
     }
     let v = (args[0] % 256) as u8;
-    let n = many(args[1]);
+    let n = words::many(args[1]);
     if MOST < n {
         return 0;
     }

@@ -1,7 +1,7 @@
 // Calls of math's doors. An f64 is two words, an f32 one.
 //     300 solve n, cells, rows, a.., b..           0, 1, eight f64; 0, 0 for none; 9
 //     301 least_squares n, values, samples, ..     0, 1, eight f64; 0, 0 for none; 9
-// 302 median values.. 0, the median, the values as it leaves them; 9; 10
+//     302 median values..                          0, the median, the values after it; 9; 10
 //     303 mad_sigma values..                       0, the answer; 9; 10
 // At most 2,048 numbers in either list of 300 and 301, at most 5,000 in that of 302 and 303.
 ghost use mathlib.Core.Path.{_≡_};
@@ -22,6 +22,13 @@ pub fn answer(kind: u32, args: &[u32], out: &mut [u32]) -> usize {
     if args.len() < 3 {
         return 0;
     }
+    lists(kind, args, out)
+}
+
+// A call with two lists of f64, which begin behind their lengths.
+fn lists(kind: u32, args: &[u32], out: &mut [u32]) -> usize
+    requires { ⌜ 3 ≤ length (now args) ⌝ }
+{
     let n = words::many(args[0]);
     let first = words::many(args[1]);
     let second = words::many(args[2]);

@@ -1,6 +1,8 @@
-// Bytes in words, four to a word, lowest first, as calls by number have them; and room for many
-// bytes.
+// Bytes in words, four to a word, lowest first, as calls by number have them; and room for long
+// lists.
+ghost use mathlib.Core.Path.{_≡_};
 ghost use Prim.Native.Nat.{_≤_};
+ghost use lib.ListN.{length};
 ghost use Rattle.packed.specs.Rooms.{HasPlaces};
 
 // Room for 1,048,576 bytes.
@@ -8,6 +10,13 @@ pub fn room() -> [u8; 1048576]
     ensures { λ r. ⌜ HasPlaces 1048576 r ⌝ }
 {
     [0; 1048576]
+}
+
+// Room for the numbers of the longest list of points, and for two that make it too long.
+pub fn list_room() -> [f32; 32770]
+    ensures { λ r. ⌜ 32770 ≡ length r ⌝ }
+{
+    [0f32; 32770]
 }
 
 // The j-th byte of a word, lowest first; the highest from 3 on.
@@ -73,14 +82,14 @@ fn byte_at(bytes: &[u8], k: usize) -> u32
     0
 }
 
-// The word of four bytes.
-fn word_of(bytes: &[u8], j: usize) -> u32
-    requires { ⌜ j ≤ 16384 ⌝ }
+// The word of the four bytes from a place on.
+pub fn word_at(bytes: &[u8], k: usize) -> u32
+    requires { ⌜ k ≤ 2000000 ⌝ }
 {
-    byte_at(bytes, 4 * j)
-        + byte_at(bytes, 4 * j + 1) * 256
-        + byte_at(bytes, 4 * j + 2) * 65536
-        + byte_at(bytes, 4 * j + 3) * 16777216
+    byte_at(bytes, k)
+        + byte_at(bytes, k + 1) * 256
+        + byte_at(bytes, k + 2) * 65536
+        + byte_at(bytes, k + 3) * 16777216
 }
 
 // n words of the bytes of a list, from a place on.
@@ -89,7 +98,7 @@ pub fn put_bytes(bytes: &[u8], out: &mut [u32], at: usize, n: usize)
 {
     let mut j: usize = 0;
     while j < n {
-        put(out, at + j, word_of(bytes, j));
+        put(out, at + j, word_at(bytes, 4 * j));
         j += 1;
     }
 }

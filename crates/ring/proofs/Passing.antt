@@ -17,9 +17,10 @@ use lib.Ieee.{Float, nan}
 use Rattle.laws.specs.Check.{orRefuse}
 use Rattle.laws.proofs.Bools.{and-left, and-right, not-true, not-false}
 use Rattle.laws.proofs.Steps.{one-less, none-left}
+use Rattle.checks.specs.Picture.{isSide}
 use Rattle.lcr_core.specs.Version.{isVersion}
 use Rattle.search.specs.Samples.{Photo}
-use Rattle.ring.specs.Checks.{isSide, isPoints, hasRoom, coordinateOf, coordinatesOn, coordinatesOf, checkRing}
+use Rattle.ring.specs.Checks.{isPoints, hasRoom, coordinateOf, coordinatesOn, coordinatesOf, checkRing}
 use Rattle.ring.specs.Trace.{shortTrace, attemptOf}
 use Rattle.ring.specs.Door.{answerBy, answerOf}
 use Rattle.ring.specs.declared.quads.Trace.{Trace}

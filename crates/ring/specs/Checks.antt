@@ -1,17 +1,14 @@
 -- The ring door's checks, as document 01's table has them. Definitions only. Assumes nothing.
-use Prim.Native.Nat.{ℕ, zero, suc, _+_, _*_, _%_}
+use Prim.Native.Nat.{ℕ, zero, suc, _+_, _%_}
 use mathlib.Core.Bool.{Bool, true, _&&_}
 use mathlib.Core.List.{List}
 use lib.Dec.{eqb, leb}
 use lib.Ieee.{Float, nan, binary32, le, ofBits}
 use lib.ListN.{length, getD}
 use Rattle.laws.specs.Check.{orRefuse}
+use Rattle.checks.specs.Picture.{checkPicture}
 use Rattle.ieee.specs.Ops.{abs, finite}
 use Rattle.lcr_core.specs.Version.{isVersion}
-
--- A side of a picture lies in 1..4,096.
-abbrev pub isSide : ℕ → Bool
-isSide n = leb 1 n && leb n 4096
 
 -- n numbers are points, two each, and at most 16,384 of them.
 abbrev pub isPoints : ℕ → Bool
@@ -34,14 +31,16 @@ coordinatesOn s (suc d) k = coordinateOf (getD s k nan) && coordinatesOn s d (k 
 abbrev pub coordinatesOf : List Float → Bool
 coordinatesOf s = coordinatesOn s (length s) 0
 
--- 1: a side outside 1..4,096. 2: bytes not width × height. 6: odd list, or over 16,384 points. 3: a working list with fewer numbers than
--- the list of points. 7: a coordinate not finite or beyond ±32,768. 8: greatest version outside 1..64. 0: no refusal.
-abbrev pub checkRing : ℕ → ℕ → ℕ → List Float → ℕ → ℕ → ℕ → ℕ → ℕ
-checkRing w h bytes s a b c most =
-    orRefuse (isSide w) 1
-    (orRefuse (isSide h) 1
-    (orRefuse (eqb bytes (w * h)) 2
-    (orRefuse (isPoints (length s)) 6
+-- 6: odd list, or over 16,384 points. 3: a working list with fewer numbers than the list of points. 7: a coordinate not finite or beyond
+-- ±32,768. 8: greatest version outside 1..64. 0: no refusal.
+abbrev pub checkPoints : List Float → ℕ → ℕ → ℕ → ℕ → ℕ
+checkPoints s a b c most =
+    orRefuse (isPoints (length s)) 6
     (orRefuse (hasRoom (length s) a b c) 3
     (orRefuse (coordinatesOf s) 7
-    (orRefuse (isVersion most) 8 0))))))
+    (orRefuse (isVersion most) 8 0)))
+
+-- 1 and 2 of the picture, then those.
+abbrev pub checkRing : ℕ → ℕ → ℕ → List Float → ℕ → ℕ → ℕ → ℕ → ℕ
+checkRing w h bytes s a b c most =
+    checkPicture w h bytes (checkPoints s a b c most)

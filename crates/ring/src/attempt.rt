@@ -4,36 +4,18 @@ use crate::quads::Trace;
 use accept::Fixed;
 use hull::points::Corners;
 use hull::points::Point;
+use lens::outer::Outer;
 use lens::straight::Lens;
 ghost use mathlib.Core.Path.{_≡_};
 ghost use Prim.Native.Nat.{_≤_};
 ghost use lib.ListN.{length};
 ghost use Rattle.hull.specs.Points.{many};
 ghost use Rattle.hull.specs.Hull.{hullOf};
-ghost use Rattle.fit.specs.Select.{UntouchedPast};
+ghost use Rattle.laws.specs.Lent.{UntouchedPast};
 ghost use Rattle.lens.specs.Estimate.{hullQuad};
 ghost use Rattle.search.specs.Samples.{Photo};
 ghost use Rattle.ring.specs.Trace.{shortTrace, foundOf, underLens, middleOf, lensTrace};
 ghost use Rattle.ring.specs.Trace.{attemptOf};
-
-// A hull's length, and its quad or none.
-pub struct Outer {
-    pub hull: usize,
-    pub quad: Corners,
-}
-
-// The hull of points and its quad; out's beginning holds the vertices then.
-fn outer_of(s: &[f32], out: &mut [f32]) -> Outer
-    requires { ⌜ length (now s) ≤ length (now out) ⌝ }
-    ensures { λ r. ⌜ r .hull ≡ length (hullOf (now (s .entry)) (many (now (s .entry)))) ⌝ }
-    ensures { λ r. ⌜ r .quad ≡ hullQuad (now (s .entry)) ⌝ }
-    ensures { λ r. ⌜ UntouchedPast (length (now (s .entry)))
-        (now (out .entry)) (now (out .exit)) ⌝ }
-{
-    let h = hull::convex_hull(s, out);
-    let q = hull::quad(&out[..2 * h]);
-    Outer { hull: h, quad: q }
-}
 
 // The trace without a quad.
 pub fn short_trace(hull: usize) -> Trace
@@ -106,7 +88,7 @@ fn straightened(
     ensures { λ r. ⌜ UntouchedPast (length (now (s .entry)))
         (now (buf .entry)) (now (buf .exit)) ⌝ }
 {
-    let o = outer_of(s, buf);
+    let o = lens::outer::outer_of(s, buf);
     found(gray, w, h, s, o, l, most, cand, buf)
 }
 
@@ -182,7 +164,7 @@ pub fn attempt(
     ensures { λ r. ⌜ UntouchedPast (length (now (s .entry)))
         (now (buf .entry)) (now (buf .exit)) ⌝ }
 {
-    let o = outer_of(s, buf);
+    let o = lens::outer::outer_of(s, buf);
     let raw = o.quad;
     let m = middle(w, h);
     let l = lens::estimate::estimate_lens(s, raw, m, straight, buf);

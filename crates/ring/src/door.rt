@@ -2,7 +2,7 @@
 use crate::quads::Trace;
 ghost use mathlib.Core.Path.{_≡_};
 ghost use lib.ListN.{length};
-ghost use Rattle.fit.specs.Select.{UntouchedPast};
+ghost use Rattle.laws.specs.Lent.{UntouchedPast};
 ghost use Rattle.ring.specs.Door.{answerOf, neededOf};
 
 // Whether a trace is given, or the number of the first check that fails.
@@ -42,7 +42,7 @@ pub fn attempt(
     let a = straight.len();
     let b = cand.len();
     let c = buf.len();
-    let n = crate::checks::check(width, height, gray.len(), points, a, b, c, most);
+    let n = crate::refusals::check(width, height, gray.len(), points, a, b, c, most);
     if n == 0 {
         let t = crate::attempt::attempt(gray, width, height, points, most, straight, cand, buf);
         return Answer {

@@ -5,6 +5,6 @@
 // of points; 7, a coordinate not finite or beyond ±32,768; 8, a greatest version outside 1..64. It
 // has no `requires`.
 pub mod attempt;
-pub mod checks;
 pub mod door;
 pub mod quads;
+pub mod refusals;

@@ -1,9 +1,8 @@
-// Quads, lenses and transforms from the words of a call.
+// Quads and lenses from the words of a call.
 ghost use Prim.Native.Nat.{_≤_};
 use hull::points::Point;
 use hull::points::Quad;
 use lens::straight::Lens;
-use transform::Transform;
 use words::floats;
 
 // The point whose coordinates are the words at k and after it.
@@ -40,22 +39,5 @@ pub fn lens(args: &[u32], k: usize) -> Lens
         x: floats::at32(args, k),
         y: floats::at32(args, k + 1),
         k: floats::at32(args, k + 2),
-    }
-}
-
-// The transform of the first 22 words.
-pub fn map(args: &[u32]) -> Transform {
-    Transform {
-        m0: floats::at64(args, 0),
-        m1: floats::at64(args, 1),
-        m2: floats::at64(args, 2),
-        m3: floats::at64(args, 3),
-        m4: floats::at64(args, 4),
-        m5: floats::at64(args, 5),
-        m6: floats::at64(args, 6),
-        m7: floats::at64(args, 7),
-        cx: floats::at64(args, 8),
-        cy: floats::at64(args, 9),
-        kappa: floats::at64(args, 10),
     }
 }

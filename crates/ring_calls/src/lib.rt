@@ -11,6 +11,7 @@ ghost use mathlib.Core.Path.{_≡_};
 ghost use Prim.Native.Nat.{_≤_};
 ghost use lib.ListN.{length};
 ghost use Rattle.search.specs.Samples.{Photo};
+use checks::check_picture;
 use lcr_core::version::Version;
 use lcr_core::version::VersionAnswer;
 use search::versions::Goal;
@@ -74,19 +75,7 @@ fn sized(kind: u32, args: &[u32], gray: &[u8], out: &mut [u32]) -> usize
 {
     let w = words::many(args[0]);
     let h = words::many(args[1]);
-    if w < 1 {
-        return 0;
-    }
-    if 4096 < w {
-        return 0;
-    }
-    if h < 1 {
-        return 0;
-    }
-    if 4096 < h {
-        return 0;
-    }
-    if gray.len() != w * h {
+    if check_picture(w, h, gray.len()) != 0 {
         return 0;
     }
     read(kind, args, gray, w, h, out)
@@ -98,7 +87,7 @@ fn read(kind: u32, args: &[u32], gray: &[u8], w: usize, h: usize, out: &mut [u32
 {
     let v = (args[3] % 256) as u8;
     if kind == 901 {
-        return lumas(gray, w, h, given::map(&args[4..]), v, out);
+        return lumas(gray, w, h, transform_calls::map(&args[4..]), v, out);
     }
     let g = Goal {
         quad: given::quad(args, 4),

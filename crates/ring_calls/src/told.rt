@@ -6,28 +6,11 @@ use search::versions::Scores;
 use transform::Transform;
 use words::floats;
 
-// The eleven numbers of a transform.
-fn eleven(t: Transform) -> [f64; 11] {
-    [
-        t.m0,
-        t.m1,
-        t.m2,
-        t.m3,
-        t.m4,
-        t.m5,
-        t.m6,
-        t.m7,
-        t.cx,
-        t.cy,
-        t.kappa,
-    ]
-}
-
 // The 22 words of a transform, from a place on.
 pub fn put_map(t: Transform, out: &mut [u32], at: usize)
     requires { ⌜ at + 22 ≤ length (now out) ⌝ }
 {
-    let list = eleven(t);
+    let list = transform_calls::numbers(t);
     floats::write64(&mut out[at..], &list);
 }
 
@@ -52,16 +35,6 @@ pub fn numbers(list: &[f32], out: &mut [u32]) -> usize {
     words::one(out, 0);
     floats::write32(&mut out[1..], list);
     1 + list.len()
-}
-
-// A number of scores, at most 64.
-pub fn few(n: usize) -> usize
-    ensures { λ r. ⌜ r ≤ 64 ⌝ }
-{
-    if 64 < n {
-        return 64;
-    }
-    n
 }
 
 // The four words of a score, from a place on.
@@ -90,7 +63,7 @@ pub fn put_scores(s: Scores, out: &mut [u32], at: usize) -> usize
     requires { ⌜ at ≤ 600 ⌝ }
     ensures { λ r. ⌜ r ≤ at + 257 ⌝ }
 {
-    let n = few(s.many);
+    let n = words::at_most(s.many, 64);
     packed::put(out, at, n as u32);
     let list = s.list;
     put_list(list, n, out, at + 1);

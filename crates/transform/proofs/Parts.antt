@@ -1,13 +1,16 @@
 -- The definitions of the mapping, from what each call gives. Assumes nothing.
 use mathlib.Core.Path.{refl, _≡_, sym, ap, _∙_}
-use mathlib.Core.List.{List, _∷_}
+use mathlib.Core.List.{List, [], _∷_, _++_}
 use mathlib.Core.Bool.{_&&_, false≢true, Bool, true, false, cond}
-use Prim.Native.Nat.{ℕ, _+_, _*_, _<_}
+use Prim.Native.Nat.{ℕ, _+_, _*_, _<_, _≤_}
 use native.Mathlib.Omega.{arith}
 use lib.IntN.{ℤ, negsuc}
+use lib.ListN.{length, drop-of-length-le}
+use lib.Seq.{sets}
 use lib.Dec.{T, ltb, ltb→lt, lt→ltb}
 use lib.Ieee.Bits.{is-true}
 use lib.Ieee.{nan, inf, fin, up, down, neg, Float, binary64, add, sub, div, lt, eq, ofBits}
+use Rattle.laws.proofs.Stores.{laid-is}
 use Rattle.ieee.specs.Narrow.{narrow}
 use Rattle.ieee.specs.Ops.{abs}
 use Rattle.math.specs.Equations.{solution}
@@ -16,6 +19,7 @@ use Rattle.math.specs.declared.Solution.{Solution}
 use Rattle.transform.specs.Mapping.{
   zero,
   one,
+  corner,
   matrix,
   numbers,
   fromSolution,
@@ -135,6 +139,13 @@ radial-is t cx cy k a b c e f g =
     ap (λ (z : Float). withRadial t z b c) e ∙ ap (λ (z : Float). withRadial t cx z c) f ∙ ap (withRadial t cx cy) g
 
 -- ---- four corners
+-- the equations of a corner, stored into all places of a list
+pub corner-is : (u v x y : Float) (l : List Float) → length l ≡ 16 → sets l 0 (corner u v x y []) ≡ corner u v x y []
+corner-is u v x y l e =
+    let room : 16 ≤ length l = omega arith in
+    let over : length l ≤ 16 = omega arith in
+    laid-is (corner u v x y []) l room ∙ ap (λ (r : List Float). corner u v x y [] ++ r) (drop-of-length-le l over)
+
 matrix-numbers : (s d : List Float) → matrix (numbers s) (numbers d) ≡ matrix s d
 unfolding matrix
 matrix-numbers s d = refl

@@ -1,6 +1,8 @@
 // Four corners as f64 numbers, and their equations.
 ghost use mathlib.Core.Path.{_≡_};
-ghost use Rattle.transform.specs.Mapping.{matrix, numbers};
+ghost use mathlib.Core.List.{[]};
+ghost use lib.ListN.{length};
+ghost use Rattle.transform.specs.Mapping.{corner, matrix, numbers};
 
 // x as an f64, which holds every f32.
 pub fn wide(x: f32) -> f64
@@ -25,90 +27,39 @@ pub fn wide8(s: [f32; 8]) -> [f64; 8]
     ]
 }
 
+// Puts the two equations of a corner into a list of sixteen numbers: (u, v) goes to (x, y).
+fn put_corner(a: &mut [f64], u: f64, v: f64, x: f64, y: f64)
+    requires { ⌜ length (now a) ≡ 16 ⌝ }
+    ensures { λ _. ⌜ now (a .exit) ≡ corner u v x y [] ⌝ }
+{
+    let nx = -x;
+    let ny = -y;
+    a[0] = u;
+    a[1] = v;
+    a[2] = 1.0;
+    a[3] = 0.0;
+    a[4] = 0.0;
+    a[5] = 0.0;
+    a[6] = nx * u;
+    a[7] = nx * v;
+    a[8] = 0.0;
+    a[9] = 0.0;
+    a[10] = 0.0;
+    a[11] = u;
+    a[12] = v;
+    a[13] = 1.0;
+    a[14] = ny * u;
+    a[15] = ny * v;
+}
+
 // The matrix of the eight equations of four corners.
 pub fn equations_of(s: [f64; 8], d: [f64; 8]) -> [f64; 64]
     ensures { λ r. ⌜ r ≡ matrix s d ⌝ }
 {
-    let u0 = s[0];
-    let v0 = s[1];
-    let u1 = s[2];
-    let v1 = s[3];
-    let u2 = s[4];
-    let v2 = s[5];
-    let u3 = s[6];
-    let v3 = s[7];
-    let x0 = -d[0];
-    let y0 = -d[1];
-    let x1 = -d[2];
-    let y1 = -d[3];
-    let x2 = -d[4];
-    let y2 = -d[5];
-    let x3 = -d[6];
-    let y3 = -d[7];
-    [
-        u0,
-        v0,
-        1.0,
-        0.0,
-        0.0,
-        0.0,
-        x0 * u0,
-        x0 * v0,
-        0.0,
-        0.0,
-        0.0,
-        u0,
-        v0,
-        1.0,
-        y0 * u0,
-        y0 * v0,
-        u1,
-        v1,
-        1.0,
-        0.0,
-        0.0,
-        0.0,
-        x1 * u1,
-        x1 * v1,
-        0.0,
-        0.0,
-        0.0,
-        u1,
-        v1,
-        1.0,
-        y1 * u1,
-        y1 * v1,
-        u2,
-        v2,
-        1.0,
-        0.0,
-        0.0,
-        0.0,
-        x2 * u2,
-        x2 * v2,
-        0.0,
-        0.0,
-        0.0,
-        u2,
-        v2,
-        1.0,
-        y2 * u2,
-        y2 * v2,
-        u3,
-        v3,
-        1.0,
-        0.0,
-        0.0,
-        0.0,
-        x3 * u3,
-        x3 * v3,
-        0.0,
-        0.0,
-        0.0,
-        u3,
-        v3,
-        1.0,
-        y3 * u3,
-        y3 * v3,
-    ]
+    let mut a = [0f64; 64];
+    put_corner(&mut a[..16], s[0], s[1], d[0], d[1]);
+    put_corner(&mut a[16..32], s[2], s[3], d[2], d[3]);
+    put_corner(&mut a[32..48], s[4], s[5], d[4], d[5]);
+    put_corner(&mut a[48..], s[6], s[7], d[6], d[7]);
+    a
 }

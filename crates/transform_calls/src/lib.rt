@@ -47,7 +47,7 @@ fn fitted(args: &[u32]) -> Mapped {
 }
 
 // The eleven numbers of a transform.
-fn numbers(t: Transform) -> [f64; 11] {
+pub fn numbers(t: Transform) -> [f64; 11] {
     [
         t.m0,
         t.m1,
@@ -81,22 +81,25 @@ fn coefficients(x: [f64; 11], out: &mut [u32]) -> usize {
     18
 }
 
+// The transform of the first 22 words.
+pub fn map(args: &[u32]) -> Transform {
+    Transform {
+        m0: floats::at64(args, 0),
+        m1: floats::at64(args, 1),
+        m2: floats::at64(args, 2),
+        m3: floats::at64(args, 3),
+        m4: floats::at64(args, 4),
+        m5: floats::at64(args, 5),
+        m6: floats::at64(args, 6),
+        m7: floats::at64(args, 7),
+        cx: floats::at64(args, 8),
+        cy: floats::at64(args, 9),
+        kappa: floats::at64(args, 10),
+    }
+}
+
 fn place(args: &[u32], out: &mut [u32]) -> usize {
-    let mut x = [0f64; 11];
-    floats::read64(args, &mut x);
-    let t = Transform {
-        m0: x[0],
-        m1: x[1],
-        m2: x[2],
-        m3: x[3],
-        m4: x[4],
-        m5: x[5],
-        m6: x[6],
-        m7: x[7],
-        cx: x[8],
-        cy: x[9],
-        kappa: x[10],
-    };
+    let t = map(args);
     let p = t.apply(floats::at32(args, 22), floats::at32(args, 23));
     words::three(out, 0, floats::bits32(p.x), floats::bits32(p.y))
 }

@@ -13,6 +13,16 @@ pub fn many(word: u32) -> usize {
     word as usize
 }
 
+// A number, or the greatest allowed where it is more.
+pub fn at_most(n: usize, most: usize) -> usize
+    ensures { λ r. ⌜ r ≤ most ⌝ }
+{
+    if most < n {
+        return most;
+    }
+    n
+}
+
 // The signed number whose bits are given.
 pub fn signed(word: u32) -> i32 {
     if word < 2147483648 {

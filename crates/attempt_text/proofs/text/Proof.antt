@@ -16,8 +16,8 @@ same-length c = search needs
 returns : tie.Need-returns
 returns c = search needs
 
-word-requires : tie.Need-word-requires
-word-requires c κs = search needs
+word-at-requires : tie.Need-word-at-requires
+word-at-requires c κs = search needs
 
 many-requires : tie.Need-many-requires
 many-requires c κs = search needs
@@ -43,14 +43,14 @@ same-length-3 c = search needs
 returns-3 : tie.Need-returns-3
 returns-3 c = search needs
 
-word-requires-2 : tie.Need-word-requires-2
-word-requires-2 c κs = search needs
+word-at-requires-2 : tie.Need-word-at-requires-2
+word-at-requires-2 c κs = search needs
 
 many-requires-2 : tie.Need-many-requires-2
 many-requires-2 c κs = search needs
 
-capped-requires : tie.Need-capped-requires
-capped-requires c κs = search needs
+at-most-requires : tie.Need-at-most-requires
+at-most-requires c κs = search needs
 
 sub-if4 : tie.Need-sub-if4
 sub-if4 c = search needs
@@ -74,10 +74,10 @@ array-borrow-prefix-points : tie.Need-array-borrow-prefix-points
 array-borrow-prefix-points c = search needs
 
 slice-aggregate-read : tie.Need-slice-aggregate-read
-slice-aggregate-read c = front _ _ (omega (arith, c .before .list-room .ensures, c .before .before .before .capped .ensures))
+slice-aggregate-read c = front _ _ (omega (arith, c .before .list-room .ensures, c .before .before .before .at-most .ensures))
 
 read-requires : tie.Need-read-requires
-read-requires c κs = (omega arith, simp length-take (omega (arith, c .before .before .before .capped .ensures)))
+read-requires c κs = (omega arith, simp length-take (omega (arith, c .before .before .before .at-most .ensures)))
 
 sub-of-points : tie.Need-sub-of-points
 sub-of-points c = search needs
@@ -90,14 +90,14 @@ part-of-points-end c = search needs
 
 array-share-prefix-points : tie.Need-array-share-prefix-points
 array-share-prefix-points c =
-    let m = c .before .before .before .before .before .before .capped in
+    let m = c .before .before .before .before .before .before .at-most in
     let b = c .before .before .before .before .list-room in
     let held = front (m .result) (b .result) (omega (arith, b .ensures, m .ensures)) ∙ sym (c .before .before .read .kept .1 .1 .0) in
     refilled (m .result) (c .before .before .read .last .1 .1 .0) (b .result) held
 
 slice-aggregate-of-points : tie.Need-slice-aggregate-of-points
 slice-aggregate-of-points c =
-    let m = c .before .before .before .before .before .before .before .capped in
+    let m = c .before .before .before .before .before .before .before .at-most in
     let b = c .before .before .before .before .before .list-room in
     let r = c .before .before .before .read in
     let held = front (m .result) (b .result) (omega (arith, b .ensures, m .ensures)) ∙ sym (r .kept .1 .1 .0) in
@@ -119,7 +119,7 @@ text-spec =
     refused-requires
     same-length
     returns
-    word-requires
+    word-at-requires
     many-requires
     refused-requires-2
     same-length-2
@@ -128,9 +128,9 @@ text-spec =
     refused-requires-3
     same-length-3
     returns-3
-    word-requires-2
+    word-at-requires-2
     many-requires-2
-    capped-requires
+    at-most-requires
     sub-if4
     mul-if4
     refused-requires-4

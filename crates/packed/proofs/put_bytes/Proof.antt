@@ -20,8 +20,11 @@ loop-holds c = search needs
 add-put : tie.Need-add-put Inv-loop μ-loop
 add-put c = search needs
 
-word-of-requires : tie.Need-word-of-requires Inv-loop μ-loop
-word-of-requires c κs = search needs
+mul-word-at : tie.Need-mul-word-at Inv-loop μ-loop
+mul-word-at c = search needs
+
+word-at-requires : tie.Need-word-at-requires Inv-loop μ-loop
+word-at-requires c κs = search needs
 
 put-requires : tie.Need-put-requires Inv-loop μ-loop
 put-requires c κs = search needs
@@ -49,7 +52,8 @@ put-bytes-spec =
     μ-loop
     loop-holds
     add-put
-    word-of-requires
+    mul-word-at
+    word-at-requires
     put-requires
     add-j
     loop-less

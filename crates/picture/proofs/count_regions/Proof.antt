@@ -6,7 +6,7 @@ use lib.ListN.{take}
 use lib.Seq.{length-take-le}
 use borrow.Author.Needs.{needs}
 use denote.Ref.{now}
-use Rattle.labels.proofs.Labellings.{past-front}
+use Rattle.laws.proofs.Past.{past-front}
 use Rattle.laws.specs.Plane.{plane}
 use Rattle.picture.proofs.Outcomes.{labels-most, labels-tab, many-most}
 use Rattle.regions.proofs.Listing.{regions-listed}
@@ -83,7 +83,7 @@ returns c =
     ) at (r .ensures) in (
       is ∙ regions-listed (plane (a .w) (now (a .s))) (a .w) (a .h) (take n (now (a .labels)))
           (labels-tab (now (a .s)) (a .w) (a .h) (now (a .labels)) (a .v) (p .pre .1 .1) (p .pre .1 .0 .0)) (p .pre .1 .1 .all),
-      past-front n (a .v) (now (a .stack)) (r .last .1 .0) (omega arith) (omega arith) (r .kept .1 .0 ∙ long),
+      past-front n (a .v) (r .last .1 .0) (now (a .stack)) (omega arith) (omega arith) (r .kept .1 .0 ∙ long) refl,
     )
 
 pub count-regions-spec : {M : Type 1} → statement M

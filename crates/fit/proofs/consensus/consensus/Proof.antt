@@ -3,7 +3,7 @@ use native.Mathlib.Omega.{arith}
 use borrow.Author.Needs.{needs}
 use Rattle.fit.proofs.Bands.{small-float}
 use Rattle.fit.proofs.EdgeLines.{no-trial, no-support, supported}
-use Rattle.fit.proofs.Selects.{past-none}
+use Rattle.laws.proofs.Past.{past-none}
 use Rattle.fit.proofs.consensus.consensus.Statement.{statement}
 use Rattle.fit.proofs.consensus.consensus.Tie as tie
 

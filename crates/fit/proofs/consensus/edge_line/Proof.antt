@@ -6,7 +6,8 @@ use native.Mathlib.Omega.{arith}
 use lib.Seq.{length-take-le}
 use borrow.Author.Needs.{needs}
 use Rattle.fit.proofs.EdgeLines.{edge-short, edge-few, edge-fit}
-use Rattle.fit.proofs.Selects.{past-none, past-more, kept-same, kept-past}
+use Rattle.fit.proofs.Selects.{kept-same, kept-past}
+use Rattle.laws.proofs.Past.{past-none, past-more}
 use Rattle.fit.proofs.consensus.edge_line.Statement.{statement}
 use Rattle.fit.proofs.consensus.edge_line.Tie as tie
 

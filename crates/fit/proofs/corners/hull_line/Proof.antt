@@ -1,7 +1,7 @@
 -- `fit::corners::hull_line` meets its contract: an edge under 16, or its refitted line. Assumes nothing.
 use borrow.Author.Needs.{needs}
 use Rattle.fit.proofs.EdgeLines.{hull-short, hull-fit}
-use Rattle.fit.proofs.Selects.{past-none}
+use Rattle.laws.proofs.Past.{past-none}
 use Rattle.fit.proofs.corners.hull_line.Statement.{statement}
 use Rattle.fit.proofs.corners.hull_line.Tie as tie
 

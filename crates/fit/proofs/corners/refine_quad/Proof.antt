@@ -2,7 +2,7 @@
 -- four uses of buf leave its rest. Assumes nothing.
 use borrow.Author.Needs.{needs}
 use Rattle.fit.proofs.EdgeLines.{refined-by}
-use Rattle.fit.proofs.Selects.{past-then}
+use Rattle.laws.proofs.Past.{past-then}
 use Rattle.fit.proofs.corners.refine_quad.Statement.{statement}
 use Rattle.fit.proofs.corners.refine_quad.Tie as tie
 

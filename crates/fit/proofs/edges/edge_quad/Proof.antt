@@ -3,7 +3,7 @@
 use native.Mathlib.Omega.{arith}
 use borrow.Author.Needs.{needs}
 use Rattle.fit.proofs.EdgeLines.{edges-by}
-use Rattle.fit.proofs.Selects.{past-then}
+use Rattle.laws.proofs.Past.{past-then}
 use Rattle.fit.proofs.edges.edge_quad.Statement.{statement}
 use Rattle.fit.proofs.edges.edge_quad.Tie as tie
 

@@ -1,7 +1,7 @@
 -- `fit::edges::next_edge_line` meets its contract, whether the line before is some or none. Assumes nothing.
 use borrow.Author.Needs.{needs}
 use Rattle.fit.proofs.Lines.{after-none, after-line}
-use Rattle.fit.proofs.Selects.{past-none}
+use Rattle.laws.proofs.Past.{past-none}
 use Rattle.fit.proofs.edges.next_edge_line.Statement.{statement}
 use Rattle.fit.proofs.edges.next_edge_line.Tie as tie
 

@@ -4,7 +4,8 @@ use mathlib.Core.Path.{sym}
 use native.Mathlib.Omega.{arith}
 use borrow.Author.Needs.{needs}
 use Rattle.fit.proofs.Lines.{pass-none, pass-few, pass-fit}
-use Rattle.fit.proofs.Selects.{kept-long, kept-same, kept-past, past-none}
+use Rattle.fit.proofs.Selects.{kept-long, kept-same, kept-past}
+use Rattle.laws.proofs.Past.{past-none}
 use Rattle.fit.proofs.middle.pass.Statement.{statement}
 use Rattle.fit.proofs.middle.pass.Tie as tie
 

@@ -2,7 +2,7 @@
 use mathlib.Core.Path.{ap, _∙_}
 use borrow.Author.Needs.{needs}
 use Rattle.fit.specs.Line.{passOf}
-use Rattle.fit.proofs.Selects.{past-then}
+use Rattle.laws.proofs.Past.{past-then}
 use Rattle.fit.proofs.middle.refit_middle.Statement.{statement}
 use Rattle.fit.proofs.middle.refit_middle.Tie as tie
 

@@ -1,7 +1,7 @@
 -- `lens::estimate::edges` meets its contract: measures that are looked for only after one that is some are the same four, and four uses
 -- of buf leave its rest. Assumes nothing.
 use borrow.Author.Needs.{needs}
-use Rattle.fit.proofs.Selects.{past-then}
+use Rattle.laws.proofs.Past.{past-then}
 use Rattle.lens.proofs.Estimates.{measures-by}
 use Rattle.lens.proofs.estimate.edges.Statement.{statement}
 use Rattle.lens.proofs.estimate.edges.Tie as tie

@@ -1,6 +1,6 @@
 -- `lens::estimate::estimate_lens` meets its contract: one pass, then the second where the first leaves a coefficient. Assumes nothing.
 use borrow.Author.Needs.{needs}
-use Rattle.fit.proofs.Selects.{past-none, past-then}
+use Rattle.laws.proofs.Past.{past-none, past-then}
 use Rattle.lens.proofs.Estimates.{lens-none, lens-by}
 use Rattle.lens.proofs.estimate.estimate_lens.Statement.{statement}
 use Rattle.lens.proofs.estimate.estimate_lens.Tie as tie

@@ -1,6 +1,6 @@
 -- `lens::estimate::next_measure` meets its contract, whether the measure before is some or none. Assumes nothing.
 use borrow.Author.Needs.{needs}
-use Rattle.fit.proofs.Selects.{past-none}
+use Rattle.laws.proofs.Past.{past-none}
 use Rattle.lens.proofs.Estimates.{after-none, after-some}
 use Rattle.lens.proofs.estimate.next_measure.Statement.{statement}
 use Rattle.lens.proofs.estimate.next_measure.Tie as tie

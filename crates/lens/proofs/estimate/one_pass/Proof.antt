@@ -1,6 +1,6 @@
 -- `lens::estimate::one_pass` meets its contract, with a quad and without one. Assumes nothing.
 use borrow.Author.Needs.{needs}
-use Rattle.fit.proofs.Selects.{past-none}
+use Rattle.laws.proofs.Past.{past-none}
 use Rattle.lens.proofs.Estimates.{pass-none, pass-by}
 use Rattle.lens.proofs.estimate.one_pass.Statement.{statement}
 use Rattle.lens.proofs.estimate.one_pass.Tie as tie

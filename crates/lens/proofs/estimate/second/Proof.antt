@@ -3,7 +3,8 @@
 use mathlib.Core.Path.{sym}
 use native.Mathlib.Omega.{arith}
 use borrow.Author.Needs.{needs}
-use Rattle.fit.proofs.Selects.{kept-long, kept-past, past-none, past-more}
+use Rattle.fit.proofs.Selects.{kept-long, kept-past}
+use Rattle.laws.proofs.Past.{past-none, past-more}
 use Rattle.lens.proofs.Estimates.{second-same, second-straight}
 use Rattle.lens.proofs.estimate.second.Statement.{statement}
 use Rattle.lens.proofs.estimate.second.Tie as tie

@@ -6,7 +6,8 @@ use native.Mathlib.Omega.{arith}
 use lib.Seq.{length-take-le}
 use borrow.Author.Needs.{needs}
 use Rattle.fit.proofs.Bands.{small-float}
-use Rattle.fit.proofs.Selects.{past-none, kept-same, kept-past}
+use Rattle.fit.proofs.Selects.{kept-same, kept-past}
+use Rattle.laws.proofs.Past.{past-none}
 use Rattle.lens.proofs.EdgeMeasures.{measure-short, measure-few, measure-bent}
 use Rattle.lens.proofs.measure.measure_edge.Statement.{statement}
 use Rattle.lens.proofs.measure.measure_edge.Tie as tie

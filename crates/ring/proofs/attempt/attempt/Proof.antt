@@ -3,7 +3,7 @@
 use mathlib.Core.Path.{_∙_}
 use native.Mathlib.Omega.{arith}
 use borrow.Author.Needs.{needs}
-use Rattle.fit.proofs.Selects.{past-then}
+use Rattle.laws.proofs.Past.{past-then}
 use Rattle.ring.proofs.Traces.{attempt-is}
 use Rattle.ring.proofs.attempt.attempt.Statement.{statement}
 use Rattle.ring.proofs.attempt.attempt.Tie as tie

@@ -3,7 +3,8 @@
 use mathlib.Core.Path.{sym}
 use native.Mathlib.Omega.{arith}
 use borrow.Author.Needs.{needs}
-use Rattle.fit.proofs.Selects.{kept-long, kept-past, past-none, past-more}
+use Rattle.fit.proofs.Selects.{kept-long, kept-past}
+use Rattle.laws.proofs.Past.{past-none, past-more}
 use Rattle.ring.proofs.Traces.{under-is, lens-same, lens-straight}
 use Rattle.ring.proofs.attempt.by_lens.Statement.{statement}
 use Rattle.ring.proofs.attempt.by_lens.Tie as tie

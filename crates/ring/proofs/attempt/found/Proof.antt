@@ -1,7 +1,7 @@
 -- `ring::attempt::found` meets its contract: no quad, or both quads tried; the working lists one after the other. Assumes nothing.
 use native.Mathlib.Omega.{arith}
 use borrow.Author.Needs.{needs}
-use Rattle.fit.proofs.Selects.{past-none, past-then}
+use Rattle.laws.proofs.Past.{past-none, past-then}
 use Rattle.ring.proofs.Traces.{found-none, found-some}
 use Rattle.ring.proofs.attempt.found.Statement.{statement}
 use Rattle.ring.proofs.attempt.found.Tie as tie

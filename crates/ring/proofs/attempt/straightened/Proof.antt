@@ -1,6 +1,6 @@
 -- `ring::attempt::straightened` meets its contract: the hull and its quad, then the trace with these. Assumes nothing.
 use borrow.Author.Needs.{needs}
-use Rattle.fit.proofs.Selects.{past-then}
+use Rattle.laws.proofs.Past.{past-then}
 use Rattle.ring.proofs.Traces.{under-is}
 use Rattle.ring.proofs.attempt.straightened.Statement.{statement}
 use Rattle.ring.proofs.attempt.straightened.Tie as tie

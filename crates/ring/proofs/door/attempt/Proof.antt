@@ -3,7 +3,7 @@ use mathlib.Core.Path.{sym, _∙_}
 use denote.Ref.{now}
 use lib.ListN.{length}
 use borrow.Author.Needs.{needs}
-use Rattle.fit.proofs.Selects.{past-none}
+use Rattle.laws.proofs.Past.{past-none}
 use Rattle.ring.specs.Door.{neededOf}
 use Rattle.ring.proofs.Passing.{passed, passed-photo, given-is, refused-is}
 use Rattle.ring.proofs.door.attempt.Statement.{statement}

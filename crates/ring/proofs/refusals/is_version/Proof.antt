@@ -1,8 +1,8 @@
--- `ring::checks::is_version` meets its contract. Assumes nothing.
+-- `ring::refusals::is_version` meets its contract. Assumes nothing.
 use native.Mathlib.Omega.{arith}
 use borrow.Author.Tests.{le-leb, lt-leb}
-use Rattle.ring.proofs.checks.is_version.Statement.{statement}
-use Rattle.ring.proofs.checks.is_version.Tie as tie
+use Rattle.ring.proofs.refusals.is_version.Statement.{statement}
+use Rattle.ring.proofs.refusals.is_version.Tie as tie
 
 returns : tie.Need-returns
 returns c = rw (lt-leb 1 (c .before .args .v) (omega arith))

@@ -1,19 +1,10 @@
 // The ring door's checks, in document 01's order: 1, 2, 6, 3, 7, 8. 0 is none of them.
+use checks::check_picture;
 ghost use mathlib.Core.Path.{_≡_};
 ghost use lib.ListN.{length};
 ghost use Rattle.lcr_core.specs.Version.{isVersion};
-ghost use Rattle.ring.specs.Checks.{isSide, isPoints, hasRoom, coordinateOf, coordinatesOf};
-ghost use Rattle.ring.specs.Checks.{checkRing};
-
-// Whether a side of a picture is one: 1 to 4,096.
-fn is_side(n: usize) -> bool
-    ensures { λ r. ⌜ r ≡ isSide n ⌝ }
-{
-    if n < 1 {
-        return false;
-    }
-    n <= 4096
-}
+ghost use Rattle.ring.specs.Checks.{isPoints, hasRoom, coordinateOf, coordinatesOf};
+ghost use Rattle.ring.specs.Checks.{checkPoints, checkRing};
 
 // Whether so many numbers are points: two each, and at most 16,384 of them.
 fn is_points(n: usize) -> bool
@@ -73,28 +64,10 @@ fn is_version(v: u8) -> bool
     v <= 64
 }
 
-// The number of the first check that fails; a, b and c are the lengths of the working lists.
-pub fn check(
-    w: usize,
-    h: usize,
-    bytes: usize,
-    s: &[f32],
-    a: usize,
-    b: usize,
-    c: usize,
-    most: u8,
-) -> u32
-    ensures { λ r. ⌜ r ≡ checkRing w h bytes (now (s .entry)) a b c most ⌝ }
+// The checks of the points, of the lengths a, b and c of the working lists, and of the version.
+fn check_points(s: &[f32], a: usize, b: usize, c: usize, most: u8) -> u32
+    ensures { λ r. ⌜ r ≡ checkPoints (now (s .entry)) a b c most ⌝ }
 {
-    if !is_side(w) {
-        return 1;
-    }
-    if !is_side(h) {
-        return 1;
-    }
-    if bytes != w * h {
-        return 2;
-    }
     if !is_points(s.len()) {
         return 6;
     }
@@ -108,4 +81,24 @@ pub fn check(
         return 8;
     }
     0
+}
+
+// The number of the first check that fails; a, b and c are the lengths of the working lists.
+pub fn check(
+    w: usize,
+    h: usize,
+    bytes: usize,
+    s: &[f32],
+    a: usize,
+    b: usize,
+    c: usize,
+    most: u8,
+) -> u32
+    ensures { λ r. ⌜ r ≡ checkRing w h bytes (now (s .entry)) a b c most ⌝ }
+{
+    let n = check_picture(w, h, bytes);
+    if n != 0 {
+        return n;
+    }
+    check_points(s, a, b, c, most)
 }

@@ -1,4 +1,4 @@
--- `ring::checks::coordinates` meets its contract. The test of the numbers that are left is that of all; the measure is how many are left.
+-- `ring::refusals::coordinates` meets its contract. The test of the numbers that are left is that of all; the measure is how many are left.
 -- Assumes nothing.
 use mathlib.Core.Path.{_≡_}
 use Prim.Native.Nat.{_-_}
@@ -6,8 +6,8 @@ use lib.ListN.{length}
 use borrow.Author.Needs.{needs}
 use Rattle.ring.specs.Checks.{coordinatesOn, coordinatesOf}
 use Rattle.ring.proofs.Passing.{good-begin, good-step, good-stop, good-end}
-use Rattle.ring.proofs.checks.coordinates.Statement.{statement}
-use Rattle.ring.proofs.checks.coordinates.Tie as tie
+use Rattle.ring.proofs.refusals.coordinates.Statement.{statement}
+use Rattle.ring.proofs.refusals.coordinates.Tie as tie
 
 abbrev Inv-loop : tie.InvT-loop
 Inv-loop s k₀ k = coordinatesOn s (length s - k) k ≡ coordinatesOf s

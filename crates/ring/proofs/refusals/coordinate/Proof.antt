@@ -1,8 +1,8 @@
--- `ring::checks::coordinate` meets its contract. Assumes nothing.
+-- `ring::refusals::coordinate` meets its contract. Assumes nothing.
 use borrow.Author.Needs.{needs}
 use Rattle.ring.specs.Checks.{coordinateOf}
-use Rattle.ring.proofs.checks.coordinate.Statement.{statement}
-use Rattle.ring.proofs.checks.coordinate.Tie as tie
+use Rattle.ring.proofs.refusals.coordinate.Statement.{statement}
+use Rattle.ring.proofs.refusals.coordinate.Tie as tie
 
 is-finite-requires : tie.Need-is-finite-requires
 is-finite-requires c κs = search needs

@@ -1,8 +1,8 @@
--- `ring::checks::has_room` meets its contract. Assumes nothing.
+-- `ring::refusals::has_room` meets its contract. Assumes nothing.
 use native.Mathlib.Omega.{arith}
 use borrow.Author.Tests.{le-leb, lt-leb}
-use Rattle.ring.proofs.checks.has_room.Statement.{statement}
-use Rattle.ring.proofs.checks.has_room.Tie as tie
+use Rattle.ring.proofs.refusals.has_room.Statement.{statement}
+use Rattle.ring.proofs.refusals.has_room.Tie as tie
 
 returns : tie.Need-returns
 returns c = let a = c .before .args in rw (lt-leb (a .n) (a .a) (omega arith))

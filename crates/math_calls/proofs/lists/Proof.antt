@@ -1,32 +1,11 @@
--- `math_calls::answer` meets its contract. Assumes nothing.
+-- `math_calls::lists` meets its contract: each list is a part of its room, as long as said. Assumes nothing.
 use lib.Seq.{length-take-le}
 use lib.ListN.{length}
 use Prim.Native.Nat.{_≤_}
 use mathlib.Core.Path.{sym}
 use borrow.Author.Needs.{needs}
-use Rattle.math_calls.proofs.answer.Statement.{statement}
-use Rattle.math_calls.proofs.answer.Tie as tie
-
-median-requires : tie.Need-median-requires
-median-requires c κs = search needs
-
-same-length : tie.Need-same-length
-same-length c = search needs
-
-returns : tie.Need-returns
-returns c = search needs
-
-mad-sigma-requires : tie.Need-mad-sigma-requires
-mad-sigma-requires c κs = search needs
-
-same-length-2 : tie.Need-same-length-2
-same-length-2 c = search needs
-
-returns-2 : tie.Need-returns-2
-returns-2 c = search needs
-
-returns-3 : tie.Need-returns-3
-returns-3 c = search needs
+use Rattle.math_calls.proofs.lists.Statement.{statement}
+use Rattle.math_calls.proofs.lists.Tie as tie
 
 shared-slice-read-many : tie.Need-shared-slice-read-many
 shared-slice-read-many c = search needs
@@ -46,11 +25,11 @@ shared-slice-read-many-3 c = search needs
 many-requires-3 : tie.Need-many-requires-3
 many-requires-3 c κs = search needs
 
-returns-4 : tie.Need-returns-4
-returns-4 c = search needs
+returns : tie.Need-returns
+returns c = search needs
 
-returns-5 : tie.Need-returns-5
-returns-5 c = search needs
+returns-2 : tie.Need-returns-2
+returns-2 c = search needs
 
 mul-rest : tie.Need-mul-rest
 mul-rest c = search needs
@@ -58,8 +37,8 @@ mul-rest c = search needs
 add-rest : tie.Need-add-rest
 add-rest c = search needs
 
-returns-6 : tie.Need-returns-6
-returns-6 c = search needs
+returns-3 : tie.Need-returns-3
+returns-3 c = search needs
 
 room64-requires : tie.Need-room64-requires
 room64-requires c κs = search needs
@@ -125,34 +104,27 @@ slice-aggregate-equations-2 c =
 equations-requires : tie.Need-equations-requires
 equations-requires c κs = search needs
 
-same-length-3 : tie.Need-same-length-3
-same-length-3 c = search needs
+same-length : tie.Need-same-length
+same-length c = search needs
 
-returns-7 : tie.Need-returns-7
-returns-7 c = search needs
+returns-4 : tie.Need-returns-4
+returns-4 c = search needs
 
-pub answer-spec : {M : Type 1} → statement M
-answer-spec =
+pub lists-spec : {M : Type 1} → statement M
+lists-spec =
     tie.close
     (tie.spec
-    median-requires
-    same-length
-    returns
-    mad-sigma-requires
-    same-length-2
-    returns-2
-    returns-3
     shared-slice-read-many
     many-requires
     shared-slice-read-many-2
     many-requires-2
     shared-slice-read-many-3
     many-requires-3
-    returns-4
-    returns-5
+    returns
+    returns-2
     mul-rest
     add-rest
-    returns-6
+    returns-3
     room64-requires
     room64-requires-2
     sub-read64
@@ -171,5 +143,5 @@ answer-spec =
     array-share-prefix-y
     slice-aggregate-equations-2
     equations-requires
-    same-length-3
-    returns-7)
+    same-length
+    returns-4)

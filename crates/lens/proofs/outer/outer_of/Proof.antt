@@ -1,11 +1,12 @@
--- `ring::attempt::outer_of` meets its contract: the vertices stand at the beginning of out, and the quad is theirs. Assumes nothing.
+-- `lens::outer::outer_of` meets its contract: the hull has at most as many vertices as there are points, they stand at the beginning of
+-- out, and the quad is theirs. Assumes nothing.
 use mathlib.Core.Path.{sym}
 use native.Mathlib.Omega.{arith}
 use lib.Seq.{length-take-le}
 use borrow.Author.Needs.{needs}
 use Rattle.lens.proofs.HullQuads.{hull-few, hull-part, hull-past, quad-by}
-use Rattle.ring.proofs.attempt.outer_of.Statement.{statement}
-use Rattle.ring.proofs.attempt.outer_of.Tie as tie
+use Rattle.lens.proofs.outer.outer_of.Statement.{statement}
+use Rattle.lens.proofs.outer.outer_of.Tie as tie
 
 convex-hull-requires : tie.Need-convex-hull-requires
 convex-hull-requires c κs = search needs

@@ -1,8 +1,8 @@
--- `ring::checks::is_points` meets its contract. Assumes nothing.
+-- `ring::refusals::is_points` meets its contract. Assumes nothing.
 use Prim.Native.Nat.{_%_}
 use borrow.Author.Tests.{eq-eqb, ne-eqb}
-use Rattle.ring.proofs.checks.is_points.Statement.{statement}
-use Rattle.ring.proofs.checks.is_points.Tie as tie
+use Rattle.ring.proofs.refusals.is_points.Statement.{statement}
+use Rattle.ring.proofs.refusals.is_points.Tie as tie
 
 returns : tie.Need-returns
 returns c = rw (ne-eqb (c .before .args .n % 2) 0 (c .if1 .taken))
