@@ -14,12 +14,8 @@
 #include <stdlib.h>
 #include <string.h>
 
-uint32_t lcr_picture(const uint8_t *s, size_t n, size_t w, size_t h, uint8_t *grid, size_t g, uint32_t *labels,
-                     size_t l, uint32_t *stack, size_t k, uint32_t *out, size_t m);
-size_t lcr_outline(const uint8_t *s, size_t n, const uint8_t *grid, size_t g, const uint32_t *labels, size_t l,
-                   uint32_t want, size_t w, size_t h, size_t x0, size_t y0, size_t x1, size_t y1, float *out, size_t m);
-size_t lcr_hull(const float *p, size_t n, float *out, size_t m);
-uint32_t lcr_quad(const float *p, size_t n, float *out);
+#include "lcr_ring.h"
+
 size_t lcr_call(uint32_t kind, const uint32_t *args, size_t n, uint32_t *out, size_t m);
 
 static uint64_t state;
@@ -223,7 +219,7 @@ static Found doors(Pic p) {
     f.grid = room(g);
     f.labels = room(4 * c);
     uint32_t *stack = room(4 * c), *size = room(4 * (c + 1));
-    if (lcr_picture(p.g, n, p.w, p.h, f.grid, g, f.labels, c, stack, c, f.out, 26)) {
+    if (lcr_picture(p.g, n, p.w, p.h, f.grid, g, f.labels, c, stack, c, f.out)) {
         fprintf(stderr, "moves: refused\n");
         exit(2);
     }
@@ -236,17 +232,17 @@ static Found doors(Pic p) {
         uint32_t *r = f.out + 2 + 6 * i;
         size_t m = 4 * (r[4] - r[2] + r[5] - r[3]);
         float *out = room(4 * m), *hull = room(4 * m + 8), q[8];
-        size_t k = lcr_outline(p.g, n, f.grid, g, f.labels, c, r[0], p.w, p.h, r[2], r[3], r[4], r[5], out, m);
-        if (k >= 1000000) {
+        size_t k, v;
+        if (lcr_outline(p.g, n, f.grid, g, f.labels, c, r[0], p.w, p.h, r[2], r[3], r[4], r[5], out, m, &k)) {
             fprintf(stderr, "moves: outline refused\n");
             exit(2);
         }
-        size_t v = lcr_hull(out, 2 * k, hull, 2 * k);
+        lcr_convex_hull(out, 2 * k, hull, 2 * k, &v);
         f.n[i] = (int)k;
         f.pts[i] = points(out, (int)k);
         f.nh[i] = (int)v;
         f.hull[i] = points(hull, (int)v);
-        f.is[i] = (int)lcr_quad(hull, 2 * v, q);
+        f.is[i] = lcr_quad(hull, 2 * v, q) == LCR_OK;
         if (f.is[i]) {
             Pt *t = points(q, 4);
             memcpy(f.quad[i], t, sizeof f.quad[i]);

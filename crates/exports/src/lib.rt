@@ -1,14 +1,17 @@
-// The finder as a static library for C and Rust.
-pub mod fits;
+// The finder as a static library for C and Rust: one function for each door, and for the entries
+// beside them. include/lcr_ring.h says of each what it takes and gives.
+//
+// A slice is a pointer and how many elements it has; a fixed array is a pointer. A result is 0
+// where the call is accepted and answered, 255 where it is accepted and there is nothing to answer,
+// else document 01's number of the refusal. On 0 every out-parameter is written, else none is. A
+// list that only the C function has is checked first: 3 where it is too short, and nothing is
+// called then.
+pub mod cells;
+pub mod equations;
+pub mod inner;
+pub mod listings;
+pub mod maps;
 pub mod marks_exports;
-pub mod numbers;
 pub mod outlines;
 pub mod pictures;
 pub mod rings;
-
-// One entry by its number (see crate `calls`): the words of its answer, first in `out`, and how
-// many.
-#[no_mangle]
-pub extern "C" fn lcr_call(kind: u32, args: &[u32], out: &mut [u32]) -> usize {
-    calls::call(kind, args, out)
-}

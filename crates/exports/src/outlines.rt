@@ -1,66 +1,126 @@
-// The outline door and the hull for C and Rust.
+// Outlines, hulls and quads for C: the outline door, with the refusals 1, 2, 5 and 3 in this order,
+// `convex_hull` and `quad`. Points are x and y by turns.
+ghost use mathlib.Core.Path.{_≡_};
+ghost use mathlib.Core.Bool.{cond};
+ghost use lib.Dec.{ltb};
+ghost use lib.ListN.{length};
+ghost use Rattle.hull.specs.Points.{many, laid};
+ghost use Rattle.hull.specs.Hull.{hullOf, hullFloats};
+ghost use Rattle.hull.specs.Quad.{quadFloats};
+ghost use Rattle.exports.specs.Answers.{noneNumber, givenOr, eightOf};
+ghost use Rattle.exports.specs.Answers.{
+  outlineAnswer,
+  outlineLeft,
+  outlineNumber,
+  pointsLeft,
+};
 use hull::points::Corners;
+use hull::points::Quad;
 use outline::Answer;
 
-// The outline door: how many points, or 1,000,000 and the number of a refusal.
+fn put_many(answer: Answer, points: &mut usize) -> u32
+    ensures { λ r. ⌜ r ≡ outlineNumber answer ⌝ }
+    ensures { λ _. ⌜ now (points .exit) ≡ pointsLeft answer (now (points .entry)) ⌝ }
+{
+    match answer {
+        Answer::Points(n) => {
+            *points = n;
+            0
+        }
+        Answer::Refused(n) => n,
+    }
+}
+
+// The boundary points of a region's box, and how many there are.
 #[no_mangle]
 pub extern "C" fn lcr_outline(
-    s: &[u8],
+    gray: &[u8],
     levels: &[u8],
     labels: &[u32],
     want: u32,
-    w: usize,
-    h: usize,
+    width: usize,
+    height: usize,
     x0: usize,
     y0: usize,
     x1: usize,
     y1: usize,
     out: &mut [f32],
-) -> usize {
-    let a = outline::outline(s, levels, labels, want, w, h, x0, y0, x1, y1, out);
-    match a {
-        Answer::Points(n) => n,
-        Answer::Refused(k) => refused(k),
-    }
+    points: &mut usize,
+) -> u32
+    ensures { λ r. ⌜
+        r ≡ outlineNumber (outlineAnswer (now (gray .entry)) (now (levels .entry))
+        (now (labels .entry)) want width height x0 y0 x1 y1 (length (now (out .entry)))) ⌝ }
+    ensures { λ _. ⌜
+        now (points .exit) ≡ pointsLeft (outlineAnswer (now (gray .entry)) (now (levels .entry))
+        (now (labels .entry)) want width height x0 y0 x1 y1 (length (now (out .entry))))
+        (now (points .entry)) ⌝ }
+    ensures { λ _. ⌜
+        now (out .exit) ≡ outlineLeft (now (gray .entry)) (now (levels .entry))
+        (now (labels .entry)) want width height x0 y0 x1 y1 (now (out .entry)) ⌝ }
+{
+    let a = outline::outline(
+        gray,
+        levels,
+        labels,
+        want,
+        width,
+        height,
+        x0,
+        y0,
+        x1,
+        y1,
+        out,
+    );
+    put_many(a, points)
 }
 
-// 1,000,000 and the number of a refusal.
-fn refused(k: u32) -> usize {
-    if k < 1000 {
-        return 1000000 + (k as usize);
+// The vertices of the hull of points, and how many there are. 3 where out has fewer numbers.
+#[no_mangle]
+pub extern "C" fn lcr_convex_hull(points: &[f32], out: &mut [f32], vertices: &mut usize) -> u32
+    ensures { λ r. ⌜
+        r
+        ≡ cond (ltb (length (now (out .entry))) (length (now (points .entry)))) 3 0 ⌝ }
+    ensures { λ _. ⌜
+        now (vertices .exit)
+        ≡ cond (ltb (length (now (out .entry))) (length (now (points .entry))))
+        (now (vertices .entry))
+        (length (hullOf (now (points .entry)) (many (now (points .entry))))) ⌝ }
+    ensures { λ _. ⌜
+        now (out .exit)
+        ≡ cond (ltb (length (now (out .entry))) (length (now (points .entry))))
+        (now (out .entry)) (laid (hullFloats (now (points .entry))) (now (out .entry))) ⌝ }
+{
+    if out.len() < points.len() {
+        return 3;
     }
+    *vertices = hull::convex_hull(points, out);
     0
 }
 
-// The hull: how many vertices, or 1,000,003 where out has fewer numbers than p.
-#[no_mangle]
-pub extern "C" fn lcr_hull(p: &[f32], out: &mut [f32]) -> usize {
-    if out.len() < p.len() {
-        return 1000003;
-    }
-    hull::convex_hull(p, out)
+// The eight numbers of a quad.
+pub fn numbers(q: Quad) -> [f32; 8]
+    ensures { λ r. ⌜ r ≡ eightOf q ⌝ }
+{
+    let a = q.a;
+    let b = q.b;
+    let c = q.c;
+    let d = q.d;
+    [a.x, a.y, b.x, b.y, c.x, c.y, d.x, d.y]
 }
 
-// The quad: 1 with its eight numbers in out, or 0.
+// The quad of the vertices of a hull.
 #[no_mangle]
-pub extern "C" fn lcr_quad(p: &[f32], out: &mut [f32; 8]) -> u32 {
-    let r = hull::quad(p);
-    match r {
+pub extern "C" fn lcr_quad(vertices: &[f32], quad: &mut [f32; 8]) -> u32
+    ensures { λ r. ⌜ r ≡ noneNumber (quadFloats (now (vertices .entry))) ⌝ }
+    ensures { λ _. ⌜
+        now (quad .exit)
+        ≡ givenOr (quadFloats (now (vertices .entry))) (now (quad .entry)) ⌝ }
+{
+    match hull::quad(vertices) {
         Corners::Found(q) => {
-            let a = q.a;
-            let b = q.b;
-            let c = q.c;
-            let d = q.d;
-            out[0] = a.x;
-            out[1] = a.y;
-            out[2] = b.x;
-            out[3] = b.y;
-            out[4] = c.x;
-            out[5] = c.y;
-            out[6] = d.x;
-            out[7] = d.y;
-            1
+            *quad = numbers(q);
+            0
         }
-        Corners::NoQuad => 0,
+        Corners::NoQuad => 255,
     }
 }

@@ -1,0 +1,4 @@
+-- Laws of the crate.
+pub mod Leaves
+pub mod MarkLaws
+pub mod Signed

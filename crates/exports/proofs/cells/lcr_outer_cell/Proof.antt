@@ -1,0 +1,27 @@
+-- `exports::cells::lcr_outer_cell` meets its contract. Assumes nothing.
+use mathlib.Core.Path.{ap, _∙_}
+use Rattle.exports.specs.Cells.{cellNumber, xLeft, yLeft}
+use denote.Ref.{now}
+use borrow.Author.Needs.{needs}
+use Rattle.exports.proofs.cells.lcr_outer_cell.Statement.{statement}
+use Rattle.exports.proofs.cells.lcr_outer_cell.Tie as tie
+
+outer-cell-requires : tie.Need-outer-cell-requires
+outer-cell-requires c κs = search needs
+
+put-cell-requires : tie.Need-put-cell-requires
+put-cell-requires c κs = search needs
+
+returns : tie.Need-returns
+returns c =
+    let a = c .before .before .before .before in
+    let e = c .before .before .before .outer-cell .ensures in (
+      c .put-cell .ensures .0 ∙ ap cellNumber e,
+      (
+        c .put-cell .ensures .1 .0 ∙ ap (λ s. xLeft s (now (a .args .x))) e,
+        c .put-cell .ensures .1 .1 ∙ ap (λ s. yLeft s (now (a .args .y))) e,
+      ),
+    )
+
+pub lcr-outer-cell-spec : {M : Type 1} → statement M
+lcr-outer-cell-spec = tie.close (tie.spec outer-cell-requires put-cell-requires returns)

@@ -1,0 +1,40 @@
+-- `exports::marks_exports::lcr_correlate` meets its contract. Assumes nothing.
+use mathlib.Core.Path.{ap, _∙_}
+use denote.Ref.{now}
+use Rattle.marks.specs.Pose.{countsOf}
+use Rattle.exports.specs.Marks.{bestNumber, scoreLeft, cornerLeft, reversedLeft, countsLeft}
+use Rattle.exports.proofs.MarkLaws.{counts-beside}
+use borrow.Author.Needs.{needs}
+use Rattle.exports.proofs.marks_exports.lcr_correlate.Statement.{statement}
+use Rattle.exports.proofs.marks_exports.lcr_correlate.Tie as tie
+
+correlate-requires : tie.Need-correlate-requires
+correlate-requires c κs = search needs
+
+put-best-requires : tie.Need-put-best-requires
+put-best-requires c κs = search needs
+
+returns : tie.Need-returns
+returns c =
+    let a = c .before .before .before .before .before .before .before .before .args in
+    let d = c .before .before .before .before .before .before .correlate in
+    let p = c .put-best .ensures in
+    let best = d .result .best in
+    let s = now (a .marks) in
+    let old = now (a .counts) in (
+      p .0 ∙ ap bestNumber (d .ensures .0),
+      (
+        p .1 .0 ∙ ap (λ b. scoreLeft b (now (a .score))) (d .ensures .0),
+        (
+          p .1 .1 .0 ∙ ap (λ b. cornerLeft b (now (a .corner))) (d .ensures .0),
+          (
+            p .1 .1 .1 .0 ∙ ap (λ b. reversedLeft b (now (a .reversed))) (d .ensures .0),
+            p .1 .1 .1 .1 ∙ ap (λ k. countsLeft best k old) (d .ensures .1) ∙ counts-beside best (a .version) s old
+                ∙ ap (λ b. countsLeft b (countsOf (a .version) s) old) (d .ensures .0),
+          ),
+        ),
+      ),
+    )
+
+pub lcr-correlate-spec : {M : Type 1} → statement M
+lcr-correlate-spec = tie.close (tie.spec correlate-requires put-best-requires returns)

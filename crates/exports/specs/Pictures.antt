@@ -1,0 +1,17 @@
+-- The numbers that the C function of the picture door leaves in its out-parameter. Definitions only. Assumes nothing.
+use mathlib.Core.List.{List, [], _∷_, _++_}
+use Prim.Native.Nat.{ℕ, _%_}
+use lib.ListN.{getD}
+use Rattle.regions.specs.declared.answer.Region.{Region}
+use Rattle.regions.specs.declared.answer.Kept.{Kept}
+use Rattle.regions.specs.Door.{noRegion}
+
+-- The six numbers of a region: label, cells, left, top, right, bottom.
+abbrev pub sixOf : Region → List ℕ
+sixOf r = r .label ∷ r .cells ∷ r .x0 ∷ r .y0 ∷ r .x1 ∷ r .y1 ∷ []
+
+-- How many regions there are, how many are kept, and four regions.
+abbrev pub regionNumbers : Kept → List ℕ
+regionNumbers k =
+    k .all % 4294967296 ∷ k .kept % 4294967296 ∷ sixOf (getD (k .list) 0 noRegion) ++ sixOf (getD (k .list) 1 noRegion)
+    ++ sixOf (getD (k .list) 2 noRegion) ++ sixOf (getD (k .list) 3 noRegion)

@@ -1,0 +1,149 @@
+//! A safe wrapper of the ring finder's doors: `regions`, `outline` and `attempt`.
+//!
+//! Link with libexports.a (`rt staticlib exports`). include/lcr_ring.h says what each function takes and gives.
+//! The lists that the doors want are made here, as long as they must be, so that no caller meets a refusal for one.
+
+/// Why a call is refused: document 01's number.
+#[derive(Debug, Clone, Copy, PartialEq, Eq)]
+pub struct Refusal(pub u32);
+
+impl std::fmt::Display for Refusal {
+    fn fmt(&self, f: &mut std::fmt::Formatter) -> std::fmt::Result {
+        let what = match self.0 {
+            1 => "a side outside 1 to 4,096 pixels",
+            2 => "bytes not width times height",
+            3 => "a list is too short",
+            5 => "a box that is not within the picture",
+            6 => "an odd list of points, or more than 16,384",
+            7 => "a coordinate not finite, or beyond 32,768",
+            8 => "a version outside 1 to 64",
+            _ => "refused",
+        };
+        write!(f, "{what} (refusal {})", self.0)
+    }
+}
+
+impl std::error::Error for Refusal {}
+
+/// A region: its label, how many cells of 8 by 8 pixels it has, and its box in pixels, right and bottom exclusive.
+#[derive(Debug, Clone, Copy, PartialEq, Eq)]
+pub struct Region {
+    pub label: u32,
+    pub cells: u32,
+    pub left: u32,
+    pub top: u32,
+    pub right: u32,
+    pub bottom: u32,
+}
+
+/// What the picture door finds: thresholds, labels, how many regions there are, and the kept ones, largest first.
+#[derive(Debug, Clone)]
+pub struct Map {
+    pub levels: Vec<u8>,
+    pub labels: Vec<u32>,
+    pub all: u32,
+    pub kept: Vec<Region>,
+}
+
+/// A located ring: its version, the fraction of positions that agree, the quad's corner where position 0 is, whether
+/// it runs backwards, and the transform's eleven numbers.
+#[derive(Debug, Clone, Copy, PartialEq)]
+pub struct Ring {
+    pub version: u8,
+    pub agreement: f32,
+    pub corner: u8,
+    pub mirrored: bool,
+    pub map: [f64; 11],
+}
+
+/// An attempt's trace: vertices of the hull, the quad, each version's (version, agreement, corner, mirrored), the ring,
+/// and the ring under the relaxed rule, which is looked for only where there is no `fix`.
+#[derive(Debug, Clone, PartialEq)]
+pub struct Trace {
+    pub hull: usize,
+    pub quad: Option<[(f32, f32); 4]>,
+    pub scores: Vec<(u8, f32, u8, bool)>,
+    pub fix: Option<Ring>,
+    pub fallback: Option<Ring>,
+}
+
+#[rustfmt::skip]
+unsafe extern "C" {
+    fn lcr_picture(gray: *const u8, n: usize, width: usize, height: usize, levels: *mut u8, l: usize, labels: *mut u32, m: usize,
+        stack: *mut u32, k: usize, regions: *mut u32) -> u32;
+    fn lcr_outline(gray: *const u8, n: usize, levels: *const u8, l: usize, labels: *const u32, m: usize, want: u32, width: usize,
+        height: usize, x0: usize, y0: usize, x1: usize, y1: usize, out: *mut f32, o: usize, points: *mut usize) -> u32;
+    fn lcr_attempt(gray: *const u8, n: usize, width: usize, height: usize, points: *const f32, m: usize, most: u8,
+        straight: *mut f32, a: usize, cand: *mut f32, b: usize, buf: *mut f32, c: usize, hull: *mut usize, found: *mut bool,
+        quad: *mut f32, tried: *mut usize, scores: *mut f32, fix: *mut f64, fallback: *mut f64) -> u32;
+}
+
+fn told(no: u32) -> Result<(), Refusal> {
+    if no == 0 { Ok(()) } else { Err(Refusal(no)) }
+}
+
+/// The picture door: a picture of one byte a pixel, row by row.
+pub fn map(gray: &[u8], width: usize, height: usize) -> Result<Map, Refusal> {
+    // a side that the door refuses gets lists of no places
+    let cells = |n: usize| if width <= 4096 && height <= 4096 { width.div_ceil(n) * height.div_ceil(n) } else { 0 };
+    let (mut levels, mut labels, mut stack, mut r) = (vec![0; cells(16)], vec![0; cells(8)], vec![0; cells(8)], [0u32; 26]);
+    // SAFETY: each pointer is that of a list of the length beside it, and no two overlap.
+    told(unsafe {
+        lcr_picture(
+            gray.as_ptr(), gray.len(), width, height, levels.as_mut_ptr(), levels.len(), labels.as_mut_ptr(), labels.len(),
+            stack.as_mut_ptr(), stack.len(), r.as_mut_ptr(),
+        )
+    })?;
+    let kept = r[2..].chunks_exact(6).take(r[1] as usize);
+    let region = |k: &[u32]| Region { label: k[0], cells: k[1], left: k[2], top: k[3], right: k[4], bottom: k[5] };
+    Ok(Map { levels, labels, all: r[0], kept: kept.map(region).collect() })
+}
+
+/// The kept regions of a picture, largest first.
+pub fn regions(gray: &[u8], width: usize, height: usize) -> Result<Vec<Region>, Refusal> {
+    Ok(map(gray, width, height)?.kept)
+}
+
+/// The outline door: boundary points of a region's box in the picture that `map` was made of.
+pub fn outline(gray: &[u8], width: usize, height: usize, map: &Map, r: &Region) -> Result<Vec<(f32, f32)>, Refusal> {
+    let [x0, y0, x1, y1] = [r.left, r.top, r.right, r.bottom].map(|n| n as usize);
+    let (mut out, mut points) = (vec![0f32; 4 * (x1.saturating_sub(x0) + y1.saturating_sub(y0))], 0);
+    // SAFETY: as above; `points` is one number.
+    told(unsafe {
+        lcr_outline(
+            gray.as_ptr(), gray.len(), map.levels.as_ptr(), map.levels.len(), map.labels.as_ptr(), map.labels.len(), r.label,
+            width, height, x0, y0, x1, y1, out.as_mut_ptr(), out.len(), &mut points,
+        )
+    })?;
+    Ok(out.chunks_exact(2).take(points).map(|p| (p[0], p[1])).collect())
+}
+
+fn ring(f: &[f64; 15]) -> Option<Ring> {
+    let map = std::array::from_fn(|i| f[4 + i]);
+    let r = Ring { version: f[0] as u8, agreement: f[1] as f32, corner: f[2] as u8, mirrored: f[3] != 0.0, map };
+    if r.version == 0 { None } else { Some(r) }
+}
+
+/// The ring door: one attempt at a ring from boundary points, up to version `most`.
+pub fn attempt(gray: &[u8], width: usize, height: usize, points: &[(f32, f32)], most: u8) -> Result<Trace, Refusal> {
+    let list: Vec<f32> = points.iter().flat_map(|p| [p.0, p.1]).collect();
+    let n = list.len();
+    let (mut a, mut b, mut c) = (vec![0f32; n], vec![0f32; n], vec![0f32; n]);
+    let (mut hull, mut tried, mut found) = (0, 0, false);
+    let (mut quad, mut scores, mut fix, mut fallback) = ([0f32; 8], [0f32; 256], [0f64; 15], [0f64; 15]);
+    // SAFETY: as above; the fixed arrays have the lengths of the header.
+    told(unsafe {
+        lcr_attempt(
+            gray.as_ptr(), gray.len(), width, height, list.as_ptr(), n, most, a.as_mut_ptr(), n, b.as_mut_ptr(), n, c.as_mut_ptr(), n,
+            &mut hull, &mut found, quad.as_mut_ptr(), &mut tried, scores.as_mut_ptr(), fix.as_mut_ptr(), fallback.as_mut_ptr(),
+        )
+    })?;
+    let corner = |i: usize| (quad[2 * i], quad[2 * i + 1]);
+    Ok(Trace {
+        hull,
+        quad: if found { Some([corner(0), corner(1), corner(2), corner(3)]) } else { None },
+        scores: scores.chunks_exact(4).take(tried).map(|s| (s[0] as u8, s[1], s[2] as u8, s[3] != 0.0)).collect(),
+        fix: ring(&fix),
+        fallback: ring(&fallback),
+    })
+}

@@ -1,0 +1,278 @@
+/* lcr_ring.h: the ring finder for C and C++.
+ *
+ * Link with libexports.a, which `rt staticlib exports` writes to target/staticlib/. Every function is proved
+ * to stay within the memory that it is handed, to end, and to answer what its door promises
+ * (docs/ARCHITECTURE.md says where); what it is handed is the caller's affair, so read this page once.
+ *
+ * RESULTS. Every function answers one of these:
+ *   LCR_OK (0)      the call is accepted; every out-parameter is written;
+ *   1 to 13         the call is refused: the number of the first check that fails, in the order given with each
+ *                   function. Out-parameters and lent lists are as before, but for refusal 4;
+ *   LCR_NONE (255)  the call is accepted and there is nothing to answer; out-parameters are as before.
+ *
+ * LISTS. A list is a pointer to its first element and a length in elements, not bytes. An array with its
+ * length in brackets is a pointer to that many elements, which must be there. No pointer may be null or
+ * misaligned, not even of an empty list. Lists and out-parameters that are written must not overlap each other
+ * or lists that are read; lists that are only read may overlap. A lent list may be longer than it must be: places
+ * past those needed stay untouched. What working lists hold after an accepted call is left open. A `bool`
+ * that is read must hold 0 or 1.
+ *
+ * A list that belongs to a door and is too short is refused by LCR_LENT in the door's own order of checks.
+ * One that only the C function has (out of lcr_convex_hull, xy of lcr_apply_all) is checked before all else, by
+ * LCR_LENT too.
+ *
+ * COORDINATES. Pixels from the picture's upper left corner, x to the right and y down: pixel (c, r) covers the
+ * square from (c, r) to (c + 1, r + 1) and has its centre at + 0.5. Points in a list are x and y by turns. A
+ * picture is one byte a pixel, 0 black to 255 white, row by row without padding. Module space has one unit a cell,
+ * the symbol from (0, 0) to (side, side).
+ *
+ * STATE. Nothing is allocated and nothing is kept between calls, so that calls on different memory may run at the
+ * same time in any threads. Floats are IEEE 754 in round to nearest, which the calling thread must have set, with
+ * subnormals on. A NaN has no fixed bits. Working memory that is not lent is on the stack: calls were seen to use up
+ * to 54 KB of it (oracle/outside/guards measures), and a median of 4,096 values may go as many levels of 48 bytes
+ * deep. A thread that calls should have 256 KB free.
+ */
+#ifndef LCR_RING_H
+#define LCR_RING_H
+
+#include <stdbool.h>
+#include <stddef.h>
+#include <stdint.h>
+
+#ifdef __cplusplus
+extern "C" {
+#endif
+
+enum {
+    LCR_OK = 0,          /* accepted and answered */
+    LCR_SIDE = 1,        /* a side of the picture outside 1..4,096 */
+    LCR_BYTES = 2,       /* bytes not width x height */
+    LCR_LENT = 3,        /* a lent list or an out list is too short */
+    LCR_STACK = 4,       /* a push finds the stack full; does not happen where LCR_LENT is passed. Labels and stack
+                            are all zero then, and the level grid is finished */
+    LCR_BOX = 5,         /* box not 0 <= x0 < x1 <= width, or the same of y and height */
+    LCR_POINTS = 6,      /* an odd list of points, or more than 16,384 points */
+    LCR_COORDINATE = 7,  /* a coordinate not finite, or beyond -32,768 .. 32,768 */
+    LCR_VERSION = 8,     /* a version outside 1..64 */
+    LCR_SIZE = 9,        /* a size outside 1..8, more than 4,096 values, or lengths that disagree */
+    LCR_VALUE = 10,      /* a NaN, an infinity or -0 among the values */
+    LCR_MARKS = 11,      /* marks or lumas not as many as the version has positions */
+    LCR_CELL = 12,       /* a cell coordinate outside -32,768 .. 32,767 */
+    LCR_RECORD = 13,     /* a record that is short or wrong */
+    LCR_NONE = 255       /* accepted, and there is nothing to answer */
+};
+
+enum {
+    LCR_VERSIONS = 64,     /* the greatest version */
+    LCR_REGIONS = 26,      /* numbers that lcr_picture answers */
+    LCR_SCORES = 256,      /* numbers of scores that lcr_attempt answers */
+    LCR_TEXT = 512         /* bytes of the text that lcr_listing answers */
+};
+
+/* How many level cells (16 by 16 pixels) and region cells (8 by 8) a picture has; cells are cut at the far edges. */
+#define LCR_LEVEL_CELLS(width, height) ((((size_t)(width) + 15) / 16) * (((size_t)(height) + 15) / 16))
+#define LCR_REGION_CELLS(width, height) ((((size_t)(width) + 7) / 8) * (((size_t)(height) + 7) / 8))
+
+/* ---- Pictures: grids and regions ------------------------------------------------------------------------ */
+
+/* The picture door: thresholds, labels and regions of a picture.
+ *
+ *   gray       gray_len bytes, width x height of them
+ *   width      pixels, 1 to 4,096
+ *   height     pixels, 1 to 4,096
+ *   levels     out, at least LCR_LEVEL_CELLS bytes: the threshold of each level cell, row by row, 0 to 255. A pixel
+ *              is ink where it is below its cell's threshold
+ *   labels     out, at least LCR_REGION_CELLS numbers: the label of each region cell, row by row, from 1 in the order
+ *              of first cells; 0 where the cell is not ink
+ *   stack      working list, at least LCR_REGION_CELLS numbers
+ *   regions    out. [0]: how many regions there are, which is the greatest label; [1]: how many are kept, 0 to 4: of
+ *              those with 16 or more cells the ones with most, equal counts by lower label; then six numbers of each of
+ *              four places, 0 past those kept: label, cells, and the box in pixels, left, top, right, bottom, right and
+ *              bottom exclusive, cut at the picture's edges
+ *
+ * Refusals in order: LCR_SIDE, LCR_BYTES, LCR_LENT, LCR_STACK. */
+uint32_t lcr_picture(const uint8_t *gray, size_t gray_len, size_t width, size_t height,
+                     uint8_t *levels, size_t levels_len, uint32_t *labels, size_t labels_len,
+                     uint32_t *stack, size_t stack_len, uint32_t regions[LCR_REGIONS]);
+
+/* ---- Outlines, hulls and quads -------------------------------------------------------------------------- */
+
+/* The outline door: boundary points of a box. Per row of the box, then per column: the start of the first and the
+ * end of the last run of 4 or more member pixels, at the pixels' centres across (+ 0.5) and edges along.
+ *
+ *   gray, width, height     as lcr_picture has them
+ *   levels     at least LCR_LEVEL_CELLS bytes, as lcr_picture left them
+ *   labels     at least LCR_REGION_CELLS numbers, as lcr_picture left them
+ *   want       the label of the region; 0 takes the cells of every label
+ *   x0 y0      the box's left and top, in pixels, within it
+ *   x1 y1      the box's right and bottom, in pixels, exclusive: 0 <= x0 < x1 <= width, 0 <= y0 < y1 <= height
+ *   out        out, at least 4 x ((x1 - x0) + (y1 - y0)) numbers: x and y of each point by turns, in pixels
+ *   points     out: how many points, 0 to 2 x (box width + height); out has twice as many numbers
+ *
+ * Refusals in order: LCR_SIDE, LCR_BYTES, LCR_BOX, LCR_LENT. */
+uint32_t lcr_outline(const uint8_t *gray, size_t gray_len, const uint8_t *levels, size_t levels_len,
+                     const uint32_t *labels, size_t labels_len, uint32_t want, size_t width, size_t height,
+                     size_t x0, size_t y0, size_t x1, size_t y1, float *out, size_t out_len, size_t *points);
+
+/* The convex hull of any list of points, from the one with least x, then least y.
+ *
+ *   points     points_len numbers, x and y by turns, any floats; an odd last number is not read
+ *   out        out, at least points_len numbers: the vertices, x and y by turns
+ *   vertices   out: how many, 0 to points_len / 2
+ *
+ * For points k/2 with 0 <= k <= 2,048, as boundary points up to 1,024 pixels are, the list is the exact hull,
+ * clockwise. Takes time in proportion to points x vertices. Refusal: LCR_LENT. */
+uint32_t lcr_convex_hull(const float *points, size_t points_len, float *out, size_t out_len, size_t *vertices);
+
+/* The quad of a hull: the farthest pair of vertices and the farthest vertex on either side of it.
+ *
+ *   vertices   vertices_len numbers, x and y by turns, as lcr_convex_hull lists them
+ *   quad       out: x and y of four corners, clockwise
+ *
+ * LCR_NONE where there are fewer than four vertices or a side has none. Takes time in proportion to the square of
+ * the vertices. No refusal. */
+uint32_t lcr_quad(const float *vertices, size_t vertices_len, float quad[8]);
+
+/* ---- The ring ------------------------------------------------------------------------------------------- */
+
+/* The ring door: one attempt at a ring from boundary points, over versions 1 to `most`.
+ *
+ *   gray, width, height     as lcr_picture has them
+ *   points     points_len numbers, x and y by turns, in pixels: at most 16,384 points, each coordinate finite and
+ *              within -32,768 .. 32,768
+ *   most       the greatest version to try, 1 to 64
+ *   straight, cand, buf     working lists, each at least points_len numbers
+ *   hull       out: vertices of the points' hull
+ *   found      out: whether there is a quad. Where there is none, quad, scores, fix and fallback are all 0
+ *   quad       out: x and y of the searched quad's four corners, in pixels, clockwise
+ *   tried      out: how many versions have a score, 0 to 64
+ *   scores     out: four numbers of each score in version order, 0 past the last: version; agreement, the fraction of
+ *              positions that agree, 0 to 1; corner, 0 to 3, the corner of the quad where position 0 is; mirrored, 1
+ *              where the ring runs backwards, else 0
+ *   fix        out: the located ring, all 0 where there is none: version (1 to 64), agreement, corner, mirrored
+ *              as in scores; then from fix + 4 on the eleven numbers of the transform from module space to pixels,
+ *              as lcr_apply takes them
+ *   fallback   out: the same under the relaxed rule, looked for only where there is no fix; all 0 where there is none
+ *
+ * Refusals in order: LCR_SIDE, LCR_BYTES, LCR_POINTS, LCR_LENT, LCR_COORDINATE, LCR_VERSION. */
+uint32_t lcr_attempt(const uint8_t *gray, size_t gray_len, size_t width, size_t height,
+                     const float *points, size_t points_len, uint8_t most,
+                     float *straight, size_t straight_len, float *cand, size_t cand_len, float *buf, size_t buf_len,
+                     size_t *hull, bool *found, float quad[8], size_t *tried, float scores[LCR_SCORES],
+                     double fix[15], double fallback[15]);
+
+/* ---- Versions, border cells and marks ------------------------------------------------------------------- */
+
+/* A version, 1 to 64.   side: out, cells on a side of the symbol, 17 + 4 x version.
+ *   positions: out, positions round its ring, 16 x version + 88.   Refusal: LCR_VERSION. */
+uint32_t lcr_version(uint8_t version, uint16_t *side, size_t *positions);
+
+/* Cells have coordinates in cells from the symbol's upper left one; those of the ring run from -3 to side + 2.
+ * In the next three x and y are within -32,768 .. 32,767. Refusals in order: LCR_VERSION, LCR_CELL.
+ *
+ * lcr_shell             depth: out, how far outside the symbol the cell lies, in cells; 0 within it
+ * lcr_edge_and_offset   edge: out, 0 top, 1 right, 2 bottom, 3 left; offset: out, the coordinate along it, in cells
+ * lcr_position          position: out, 0 to positions - 1; LCR_NONE where the cell is not of the ring */
+uint32_t lcr_shell(uint8_t version, int32_t x, int32_t y, size_t *depth);
+uint32_t lcr_edge_and_offset(uint8_t version, int32_t x, int32_t y, size_t *edge, int32_t *offset);
+uint32_t lcr_position(uint8_t version, int32_t x, int32_t y, size_t *position);
+
+/* The outer cell of a position, and the cell one step inward from it. p: any number, reduced modulo the positions.
+ *   x, y: out, the cell, -3 to side + 2.   Refusal: LCR_VERSION. */
+uint32_t lcr_outer_cell(uint8_t version, size_t p, int32_t *x, int32_t *y);
+uint32_t lcr_inner_cell(uint8_t version, size_t p, int32_t *x, int32_t *y);
+
+/* The ring's mark at a position. p: any number, reduced modulo the positions.   light: out, whether it is light.
+ * Refusal: LCR_VERSION. */
+uint32_t lcr_sequence_light(uint8_t version, size_t p, bool *light);
+
+/* Light or dark at each position of a ring, from its luma.
+ *
+ *   version    1 to 64
+ *   lumas      one a position of the version, any floats (0 to 255 as sampled), in the order of positions
+ *   marks      out, exactly one a position: whether it is light
+ *
+ * Refusals in order: LCR_VERSION, LCR_MARKS (lumas, then marks; longer lists too). */
+uint32_t lcr_classify(uint8_t version, const float *lumas, size_t lumas_len, bool *marks, size_t marks_len);
+
+/* The pose in which a ring's marks agree most with the version's sequence.
+ *
+ *   version    1 to 64
+ *   marks      exactly one a position of the version
+ *   score      out: the fraction of positions that agree, 0 to 1
+ *   corner     out: 0 to 3, by how many quarters the ring is shifted
+ *   reversed   out: whether it runs backwards
+ *   counts     out: how many positions agree in each pose, the four shifts as it is, then the four reversed;
+ *              the answer is the first with the greatest count
+ *
+ * Refusals in order: LCR_VERSION, LCR_MARKS. */
+uint32_t lcr_correlate(uint8_t version, const bool *marks, size_t marks_len, float *score, size_t *corner,
+                       bool *reversed, uint16_t counts[8]);
+
+/* ---- Transforms ----------------------------------------------------------------------------------------- */
+
+/* A transform t is eleven numbers, coefficients m0 to m7 and a lens cx, cy, kappa. The pixel of the place (u, v) in
+ * module space is (m0 u + m1 v + m2, m3 u + m4 v + m5) / (m6 u + m7 v + 1), in pixels, then bent about the
+ * centre (cx, cy), in pixels, by kappa, per square pixel; a kappa of 0 is no lens. All floats are taken.
+ *
+ * lcr_from_quad     t: out, the transform that takes the corners src to dst, each x and y of four corners, without a
+ *                   lens; LCR_NONE where there is none
+ * lcr_with_radial   puts the lens cx, cy, kappa into t
+ * lcr_apply         x, y: out, the pixel of (u, v)
+ * lcr_apply_all     uv: u and v of many places by turns, an odd last number is not read; xy: out, at least uv_len
+ *                   numbers, else LCR_LENT: x and y of each by turns
+ *
+ * The others have no refusal. */
+uint32_t lcr_from_quad(const float src[8], const float dst[8], double t[11]);
+uint32_t lcr_with_radial(double t[11], float cx, float cy, float kappa);
+uint32_t lcr_apply(const double t[11], float u, float v, float *x, float *y);
+uint32_t lcr_apply_all(const double t[11], const float *uv, size_t uv_len, float *xy, size_t xy_len);
+
+/* ---- Equations and medians ------------------------------------------------------------------------------ */
+
+/* The solution of n linear equations.
+ *
+ *   a          exactly n x n numbers, the matrix row by row
+ *   b          exactly n numbers, the right side
+ *   n          1 to 8
+ *   x          out: the n numbers of the solution, then +0
+ *
+ * LCR_NONE where a pivot's magnitude is below 1e-12. Refusal: LCR_SIZE. */
+uint32_t lcr_solve(const double *a, size_t a_len, const double *b, size_t b_len, size_t n, double x[8]);
+
+/* The least squares fit of n coefficients.
+ *
+ *   basis      exactly n numbers of each sample, one sample after the other
+ *   targets    one number of each sample, any number of samples
+ *   n          1 to 8
+ *   x          out: the n coefficients, then +0
+ *
+ * LCR_NONE where there are fewer samples than coefficients, or a pivot's magnitude is below 1e-12.
+ * Refusal: LCR_SIZE. */
+uint32_t lcr_least_squares(const double *basis, size_t basis_len, const double *targets, size_t targets_len, size_t n,
+                           double x[8]);
+
+/* The median of up to 4,096 values, no NaN, infinity or -0; the mean of the middle two where they are even in number, 0
+ * where there are none. values: come into another order.   median: out.   Refusals in order: LCR_SIZE, LCR_VALUE. */
+uint32_t lcr_median(float *values, size_t values_len, float *median);
+
+/* The median distance from the median, times 1.4826, of up to 4,096 values, no NaN, infinity or -0; 0 where there
+ * are none. sigma: out.   Refusals in order: LCR_SIZE, LCR_VALUE. */
+uint32_t lcr_mad_sigma(const float *values, size_t values_len, float *sigma);
+
+/* ---- The tray list -------------------------------------------------------------------------------------- */
+
+/* The listing of a record's picture, as the program traylist prints it.
+ *
+ *   record     four-byte length of the rest, two-byte kind 1, two-byte width and height (1 to 160), pixels; all
+ *              little-endian. Bytes after the record are not read
+ *   text       out: lines that end in a line feed, at most 352 bytes, then zeros
+ *   len        out: how many bytes the lines have
+ *
+ * Refusal: LCR_RECORD. */
+uint32_t lcr_listing(const uint8_t *record, size_t record_len, uint8_t text[LCR_TEXT], size_t *len);
+
+#ifdef __cplusplus
+}
+#endif
+#endif

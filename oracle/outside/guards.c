@@ -1,0 +1,555 @@
+/* Every C function of include/lcr_ring.h on lists at guard pages.
+ *
+ *   guards SEED CALLS [NAME]    CALLS random calls of each function, or of the one named
+ *
+ * Each call is made twice on equal contents: every list and out-parameter once ends where a page without access
+ * begins, and once begins where one ends. A touch outside ends the program; so does the first of these that
+ * fails, with 1 and the call's seed:
+ *   the result and what every list holds afterwards are equal in both (a NaN equals a NaN);
+ *   the result is the refusal that document 01's table has for these sizes and numbers, or none where it has none;
+ *   lists that are only read are as before, on a refusal or LCR_NONE all lists are;
+ *   in an accepted call the places past those needed are as before.
+ *
+ * The calls of a function run on a stack of their own, filled with one byte before: of each function it prints how
+ * many bytes of it were used, this program's own frames among them.
+ */
+#define _GNU_SOURCE
+#include <math.h>
+#include <pthread.h>
+#include <signal.h>
+#include <stdio.h>
+#include <stdlib.h>
+#include <string.h>
+#include <sys/mman.h>
+#include <unistd.h>
+
+#include "lcr_ring.h"
+
+enum { AREA = 1 << 20, LISTS = 12, ANY = 1000 };
+
+static uint64_t state;
+static uint64_t next(void) {
+    uint64_t z = (state += 0x9E3779B97F4A7C15u);
+    z = (z ^ (z >> 30)) * 0xBF58476D1CE4E5B9u;
+    z = (z ^ (z >> 27)) * 0x94D049BB133111EBu;
+    return z ^ (z >> 31);
+}
+static size_t below(size_t n) { return (size_t)(next() % (n ? n : 1)); }
+static int odds(int in) { return below((size_t)in) == 0; }
+
+/* ---- lists: their contents before the call, and their place in it */
+
+typedef struct {
+    size_t n, size;      /* elements, and bytes of each */
+    int written;         /* lent, or only read */
+    int real;            /* floats: 4 or 8, else 0 */
+    size_t need;         /* elements that an accepted call may change; all where it is left at ANY */
+    uint8_t *before;     /* contents before the call */
+    uint8_t *area;       /* AREA bytes between two pages without access */
+    uint8_t *at;         /* where the list lies in this call */
+} List;
+
+static List list[LISTS];
+static int lists;
+static uint8_t after[LISTS][AREA];
+static const char *name;
+static uint64_t call_seed;
+static int placed;
+
+static void fail(const char *what, int k) {
+    fprintf(stderr, "guards: %s, call seed %llu: %s (list %d)\n", name, (unsigned long long)call_seed, what, k);
+    exit(1);
+}
+static void touched(int sig) {
+    static const char text[] = "guards: a touch outside a list: ";
+    char seed[24];
+    int i = 23;
+    (void)sig;
+    seed[i] = '\n';
+    for (uint64_t s = call_seed; i > 0 && (s || i == 23); s /= 10) seed[--i] = (char)('0' + s % 10);
+    if (write(2, text, sizeof text - 1) < 0 || write(2, name, strlen(name)) < 0) _exit(1);
+    if (write(2, placed ? " (begins) seed " : " (ends) seed ", placed ? 15 : 13) < 0) _exit(1);
+    if (write(2, seed + i, (size_t)(24 - i)) < 0) _exit(1);
+    _exit(1);
+}
+static void make_areas(void) {
+    size_t page = (size_t)sysconf(_SC_PAGESIZE);
+    for (int i = 0; i < LISTS; i++) {
+        uint8_t *p = mmap(0, AREA + 2 * page, PROT_READ | PROT_WRITE, MAP_PRIVATE | MAP_ANONYMOUS, -1, 0);
+        list[i].before = malloc(AREA);
+        if (p == MAP_FAILED || !list[i].before || mprotect(p, page, PROT_NONE) ||
+            mprotect(p + page + AREA, page, PROT_NONE)) {
+            perror("guards");
+            exit(2);
+        }
+        list[i].area = p + page;
+    }
+}
+/* A list of n elements with random bytes; its contents. */
+static void *add(size_t n, size_t size, int written, int real) {
+    List *l = &list[lists++];
+    if (n * size > AREA) {
+        fprintf(stderr, "guards: %s wants a list of %zu bytes\n", name, n * size);
+        exit(2);
+    }
+    l->n = n, l->size = size, l->written = written, l->real = real, l->need = ANY * ANY;
+    for (size_t i = 0; i < n * size; i += 8) {
+        uint64_t w = next();
+        memcpy(l->before + i, &w, n * size - i < 8 ? n * size - i : 8);
+    }
+    return l->before;
+}
+static void *at(int k) { return list[k].at; }
+static size_t len(int k) { return list[k].n; }
+
+/* ---- random values */
+
+static size_t near(size_t n) { return odds(4) ? n : odds(3) ? n + below(20) : odds(8) ? n - below(n + 1) : n + below(3); }
+static float number(int kind) {
+    float x;
+    uint32_t b = (uint32_t)next();
+    switch (kind) {
+    case 0: return (float)below(2048) / 2;
+    case 1: return (float)((double)next() / 1.8446744073709552e19 * 600 - 50);
+    case 2: return (float)below(4);
+    default:
+        memcpy(&x, &b, 4);
+        return odds(6) ? (float)NAN : odds(6) ? (float)INFINITY : odds(6) ? -0.0f : x;
+    }
+}
+static void floats(float *to, size_t n, int kind, int strange) {
+    for (size_t i = 0; i < n; i++) to[i] = number(strange && odds(strange) ? 3 : kind);
+}
+static void doubles(double *to, size_t n) {
+    int kind = (int)below(3), strange = odds(5) ? 6 : 0;
+    for (size_t i = 0; i < n; i++) to[i] = (strange && odds(strange)) ? (double)number(3) : (double)number(kind) - (double)number(1) / 3;
+}
+static uint8_t version(void) { return odds(8) ? (uint8_t)next() : (uint8_t)(1 + below(odds(3) ? 64 : 6)); }
+static int is_version(unsigned v) { return v >= 1 && v <= 64; }
+static int32_t coordinate(void) {
+    return odds(8) ? (int32_t)(uint32_t)next() : odds(8) ? (odds(2) ? 32766 : -32770) + (int32_t)below(4) : (int32_t)below(40) - 8;
+}
+static int in_range(int32_t c) { return c >= -32768 && c <= 32767; }
+
+/* A picture: a side now and then out of range, the bytes now and then not as many. */
+static size_t side_of(size_t most) { return odds(30) ? (odds(2) ? 0 : 4097 + below(1000)) : 1 + below(odds(3) ? 24 : most); }
+static void paint(uint8_t *p, size_t n, size_t w) {
+    int kind = (int)below(5);
+    size_t shapes = 1 + below(6);
+    if (kind == 0) return;
+    memset(p, kind == 1 ? 128 : 255, n);
+    if (w == 0) return;
+    for (size_t s = 0; s < shapes; s++) {
+        size_t x0 = below(w), y0 = below(n / w + 1), sw = 1 + below(60), sh = 1 + below(60);
+        uint8_t v = (uint8_t)(odds(2) ? 0 : below(200));
+        for (size_t y = y0; y < y0 + sh && y < n / w; y++)
+            for (size_t x = x0; x < x0 + sw && x < w; x++) p[y * w + x] = v;
+    }
+    if (kind == 4)
+        for (size_t i = 0; i < n; i++)
+            if (odds(9)) p[i] = (uint8_t)next();
+}
+/* The ring of a version in a picture of its own: list 0, and its sides. */
+static void ring(size_t *w, size_t *h) {
+    uint16_t side;
+    size_t n;
+    uint8_t v = (uint8_t)(1 + below(3));
+    int turn = (int)below(4), mirrored = odds(2);
+    lcr_version(v, &side, &n);
+    size_t s = (size_t)side + 6, pitch = 3 + below(3), wide = (s + 4) * pitch;
+    uint8_t *p = add(wide * wide, 1, 0, 0);
+    memset(p, 255, wide * wide);
+    for (size_t i = 0; i < n; i++) {
+        bool light;
+        int32_t x, y;
+        lcr_sequence_light(v, i, &light);
+        lcr_outer_cell(v, i, &x, &y);
+        if (light) continue;
+        x += 3, y += 3;
+        if (mirrored) x = (int32_t)s - 1 - x;
+        for (int t = 0; t < turn; t++) {
+            int32_t o = x;
+            x = (int32_t)s - 1 - y, y = o;
+        }
+        for (size_t a = 0; a < pitch; a++) memset(p + (((size_t)y + 2) * pitch + a) * wide + ((size_t)x + 2) * pitch, (int)below(40), pitch);
+    }
+    *w = *h = wide;
+}
+static uint32_t picture_check(size_t bytes, size_t w, size_t h) {
+    if (w < 1 || w > 4096 || h < 1 || h > 4096) return LCR_SIDE;
+    return bytes == w * h ? LCR_OK : LCR_BYTES;
+}
+static void gray(size_t most, size_t *w, size_t *h) {
+    *w = side_of(most), *h = side_of(odds(20) ? 4096 : most);
+    if (*h > most && *w > 40) *w = 1 + below(40);
+    size_t n = *w * *h;
+    if (n > 200000 || odds(25)) n = below(500);
+    paint(add(n, 1, 0, 0), n, *w);
+}
+
+/* ---- the functions: `make` makes lists and the refusal to expect, `call` calls */
+
+static size_t w, h, box[4], size;
+static uint32_t want, word;
+static uint8_t ver;
+static int32_t cell[2];
+static float place[3];
+
+static uint32_t make_picture(void) {
+    gray(200, &w, &h);
+    size_t l = LCR_LEVEL_CELLS(w % 5000, h % 5000), c = LCR_REGION_CELLS(w % 5000, h % 5000);
+    if (c > 100000) l = c = 100;
+    add(near(l), 1, 1, 0), add(near(c), 4, 1, 0), add(near(c), 4, 1, 0), add(LCR_REGIONS, 4, 1, 0);
+    list[1].need = l, list[2].need = list[3].need = c;
+    uint32_t no = picture_check(len(0), w, h);
+    return no ? no : len(1) < l || len(2) < c || len(3) < c ? LCR_LENT : LCR_OK;
+}
+static uint32_t call_picture(void) {
+    return lcr_picture(at(0), len(0), w, h, at(1), len(1), at(2), len(2), at(3), len(3), at(4));
+}
+
+static uint32_t make_outline(void) {
+    gray(120, &w, &h);
+    size_t l = LCR_LEVEL_CELLS(w % 5000, h % 5000), c = LCR_REGION_CELLS(w % 5000, h % 5000);
+    if (c > 100000) l = c = 100;
+    uint8_t *levels = add(near(l), 1, 0, 0);
+    uint32_t *labels = add(near(c), 4, 0, 0);
+    int flat = odds(2);
+    for (size_t i = 0; i < len(1); i++) levels[i] = flat ? 128 : levels[i];
+    for (size_t i = 0; i < len(2); i++) labels[i] = (uint32_t)below(flat ? 2 : 4);
+    word = (uint32_t)below(3);
+    for (int i = 0; i < 2; i++) {
+        size_t s = i ? h : w, a = below(s), b = a + 1 + below(s - a);
+        box[i] = odds(15) ? below(s + 3) : odds(3) ? 0 : a, box[2 + i] = odds(15) ? below(s + 3) : odds(3) ? s : b;
+    }
+    int fits = box[0] < box[2] && box[2] <= w && box[1] < box[3] && box[3] <= h;
+    size_t room = fits ? 4 * (box[2] - box[0] + box[3] - box[1]) : 8;
+    add(near(room), 4, 1, 4), add(1, sizeof(size_t), 1, 0);
+    uint32_t no = picture_check(len(0), w, h);
+    if (no) return no;
+    return !fits ? LCR_BOX : len(1) < l || len(2) < c || len(3) < room ? LCR_LENT : LCR_OK;
+}
+static uint32_t call_outline(void) {
+    size_t *points = at(4);
+    uint32_t r = lcr_outline(at(0), len(0), at(1), len(1), at(2), len(2), word, w, h, box[0], box[1], box[2], box[3], at(3), len(3), points);
+    if (r == LCR_OK) list[3].need = 2 * *points;
+    return r;
+}
+
+static uint32_t make_hull(void) {
+    size_t n = odds(4) ? below(300) : below(30);
+    floats(add(n, 4, 0, 4), n, (int)below(3), odds(4) ? 9 : 0);
+    add(near(n), 4, 1, 4), add(1, sizeof(size_t), 1, 0);
+    return len(1) < n ? LCR_LENT : LCR_OK;
+}
+static uint32_t call_hull(void) {
+    size_t *vertices = at(2);
+    uint32_t r = lcr_convex_hull(at(0), len(0), at(1), len(1), vertices);
+    if (r == LCR_OK) list[1].need = 2 * *vertices;
+    return r;
+}
+
+static uint32_t make_quad(void) {
+    size_t n = odds(4) ? below(300) : below(30);
+    floats(add(n, 4, 0, 4), n, (int)below(3), odds(4) ? 9 : 0);
+    add(8, 4, 1, 4);
+    return ANY;
+}
+static uint32_t call_quad(void) { return lcr_quad(at(0), len(0), at(1)); }
+
+/* The boundary points of list 0's first region, as points of an attempt; else random ones. */
+static size_t outlined(float *to, size_t most) {
+    static uint8_t levels[4096];
+    static uint32_t labels[8192], stack[8192], r[LCR_REGIONS];
+    size_t n;
+    if (lcr_picture(list[0].before, len(0), w, h, levels, 4096, labels, 8192, stack, 8192, r) || !r[1]) return 0;
+    if (lcr_outline(list[0].before, len(0), levels, 4096, labels, 8192, r[2], w, h, r[4], r[5], r[6], r[7], to, most, &n)) return 0;
+    return 2 * n;
+}
+static uint32_t make_attempt(void) {
+    static float found[16384];
+    size_t n = 0;
+    if (odds(4)) {
+        ring(&w, &h);
+        n = outlined(found, 16384);
+    } else {
+        gray(100, &w, &h);
+        if (odds(2)) n = outlined(found, 16384);
+    }
+    if (!n) n = odds(300) ? 32768 + below(4) : 2 * below(odds(4) ? 60 : 8) + (odds(12) ? 1 : 0), floats(found, n < 16384 ? n : 16384, (int)below(3), 0);
+    float *p = add(n, 4, 0, 4);
+    for (size_t i = 0; i < n; i++) p[i] = found[i % 16384];
+    if (n && odds(8)) p[below(n)] = odds(2) ? 32768.0f : number(3);
+    add(near(n), 4, 1, 4), add(near(n), 4, 1, 4), add(near(n), 4, 1, 4);
+    list[2].need = list[3].need = list[4].need = n;
+    add(1, sizeof(size_t), 1, 0), add(1, 1, 1, 0), add(8, 4, 1, 4), add(1, sizeof(size_t), 1, 0);
+    add(LCR_SCORES, 4, 1, 4), add(15, 8, 1, 8), add(15, 8, 1, 8);
+    ver = odds(3) ? 64 : version();
+    uint32_t no = picture_check(len(0), w, h);
+    if (no) return no;
+    if (n % 2 || n > 32768) return LCR_POINTS;
+    if (len(2) < n || len(3) < n || len(4) < n) return LCR_LENT;
+    for (size_t i = 0; i < n; i++)
+        if (!(fabsf(p[i]) <= 32768.0f)) return LCR_COORDINATE;
+    return is_version(ver) ? LCR_OK : LCR_VERSION;
+}
+static size_t fixes, fallbacks, nones;
+static uint32_t call_attempt(void) {
+    double *fix = at(10), *fallback = at(11);
+    bool *is = at(6);
+    uint32_t r = lcr_attempt(at(0), len(0), w, h, at(1), len(1), ver, at(2), len(2), at(3), len(3), at(4), len(4), at(5), is,
+                             at(7), at(8), at(9), fix, fallback);
+    if (r == LCR_OK) fixes += fix[0] != 0, fallbacks += fallback[0] != 0, nones += !*is;
+    return r;
+}
+
+static uint32_t make_version(void) {
+    ver = version();
+    add(1, 2, 1, 0), add(1, sizeof(size_t), 1, 0);
+    return is_version(ver) ? LCR_OK : LCR_VERSION;
+}
+static uint32_t call_version(void) { return lcr_version(ver, at(0), at(1)); }
+
+static uint32_t make_cell(void) {
+    ver = version(), cell[0] = coordinate(), cell[1] = coordinate();
+    add(1, sizeof(size_t), 1, 0), add(1, 4, 1, 0);
+    return !is_version(ver) ? LCR_VERSION : in_range(cell[0]) && in_range(cell[1]) ? LCR_OK : LCR_CELL;
+}
+static uint32_t make_place(void) {
+    uint32_t no = make_cell();
+    return no ? no : ANY;
+}
+static uint32_t call_shell(void) { return lcr_shell(ver, cell[0], cell[1], at(0)); }
+static uint32_t call_edge(void) { return lcr_edge_and_offset(ver, cell[0], cell[1], at(0), at(1)); }
+static uint32_t call_position(void) { return lcr_position(ver, cell[0], cell[1], at(0)); }
+
+static uint32_t make_step(void) {
+    ver = version(), size = odds(8) ? (size_t)next() : below(1300);
+    add(1, 4, 1, 0), add(1, 4, 1, 0), add(1, 1, 1, 0);
+    return is_version(ver) ? LCR_OK : LCR_VERSION;
+}
+static uint32_t call_outer(void) { return lcr_outer_cell(ver, size, at(0), at(1)); }
+static uint32_t call_inner(void) { return lcr_inner_cell(ver, size, at(0), at(1)); }
+static uint32_t call_light(void) { return lcr_sequence_light(ver, size, at(2)); }
+
+static size_t marks_of(void) {
+    ver = version();
+    return odds(10) ? below(1200) : 16u * ver + 88u;
+}
+static uint32_t make_classify(void) {
+    size_t n = marks_of(), m = odds(10) ? below(1200) : 16u * ver + 88u;
+    floats(add(n, 4, 0, 4), n, (int)below(3), odds(4) ? 20 : 0);
+    add(m, 1, 1, 0);
+    return !is_version(ver) ? LCR_VERSION : n == 16u * ver + 88u && m == n ? LCR_OK : LCR_MARKS;
+}
+static uint32_t call_classify(void) { return lcr_classify(ver, at(0), len(0), at(1), len(1)); }
+
+static uint32_t make_correlate(void) {
+    size_t n = marks_of();
+    uint8_t *m = add(n, 1, 0, 0);
+    for (size_t i = 0; i < n; i++) m[i] &= 1;
+    add(1, 4, 1, 4), add(1, sizeof(size_t), 1, 0), add(1, 1, 1, 0), add(8, 2, 1, 0);
+    return !is_version(ver) ? LCR_VERSION : n == 16u * ver + 88u ? LCR_OK : LCR_MARKS;
+}
+static uint32_t call_correlate(void) { return lcr_correlate(ver, at(0), len(0), at(1), at(2), at(3), at(4)); }
+
+static uint32_t make_from_quad(void) {
+    for (int i = 0; i < 2; i++) floats(add(8, 4, 0, 4), 8, (int)below(3), odds(5) ? 8 : 0);
+    add(11, 8, 1, 8);
+    return ANY;
+}
+static uint32_t call_from_quad(void) { return lcr_from_quad(at(0), at(1), at(2)); }
+
+static uint32_t make_map(void) {
+    size_t n = below(60);
+    for (int i = 0; i < 3; i++) place[i] = number(odds(9) ? 3 : (int)below(3));
+    doubles(add(11, 8, 0, 8), 11);
+    add(1, 4, 1, 4), add(1, 4, 1, 4);
+    floats(add(n, 4, 0, 4), n, (int)below(3), odds(4) ? 9 : 0);
+    add(near(n), 4, 1, 4);
+    list[4].need = n / 2 * 2;
+    return LCR_OK;
+}
+static uint32_t call_apply(void) { return lcr_apply(at(0), place[0], place[1], at(1), at(2)); }
+static uint32_t make_map_all(void) {
+    make_map();
+    return len(4) < len(3) ? LCR_LENT : LCR_OK;
+}
+static uint32_t call_apply_all(void) { return lcr_apply_all(at(0), at(3), len(3), at(4), len(4)); }
+static uint32_t make_radial(void) {
+    make_map();
+    list[0].written = 1;
+    return LCR_OK;
+}
+static uint32_t call_radial(void) { return lcr_with_radial(at(0), place[0], place[1], place[2]); }
+
+static uint32_t make_solve(void) {
+    size = odds(8) ? below(12) : 1 + below(8);
+    size_t a = odds(12) ? below(80) : size * size, b = odds(12) ? below(10) : size;
+    doubles(add(a, 8, 0, 8), a), doubles(add(b, 8, 0, 8), b), add(8, 8, 1, 8);
+    return size < 1 || size > 8 || a != size * size || b != size ? LCR_SIZE : ANY;
+}
+static uint32_t call_solve(void) { return lcr_solve(at(0), len(0), at(1), len(1), size, at(2)); }
+
+static uint32_t make_fit(void) {
+    size = odds(8) ? below(12) : 1 + below(8);
+    size_t rows = below(40), a = odds(12) ? below(80) : size * rows, b = odds(12) ? below(10) : rows;
+    doubles(add(a, 8, 0, 8), a), doubles(add(b, 8, 0, 8), b), add(8, 8, 1, 8);
+    return size < 1 || size > 8 || a % size || a / size != b ? LCR_SIZE : ANY;
+}
+static uint32_t call_fit(void) { return lcr_least_squares(at(0), len(0), at(1), len(1), size, at(2)); }
+
+static uint32_t make_values(void) {
+    size_t n = odds(40) ? 4090 + below(12) : below(odds(3) ? 300 : 20);
+    float *v = add(n, 4, 0, 4);
+    floats(v, n, (int)below(3), odds(6) ? 40 : 0);
+    add(1, 4, 1, 4);
+    if (n > 4096) return LCR_SIZE;
+    for (size_t i = 0; i < n; i++)
+        if (!isfinite(v[i]) || (v[i] == 0 && signbit(v[i]))) return LCR_VALUE;
+    return LCR_OK;
+}
+static uint32_t call_sigma(void) { return lcr_mad_sigma(at(0), len(0), at(1)); }
+static uint32_t make_median(void) {
+    uint32_t no = make_values();
+    list[0].written = 1;
+    return no;
+}
+static uint32_t call_median(void) { return lcr_median(at(0), len(0), at(1)); }
+
+static uint32_t make_listing(void) {
+    size_t a = 1 + below(odds(4) ? 160 : 60), b = 1 + below(odds(4) ? 160 : 60), rest = 6 + a * b;
+    size_t n = odds(12) ? below(4 + rest) : 4 + rest + (odds(3) ? below(9) : 0), kind = odds(20) ? below(4) : 1;
+    uint32_t said = (uint32_t)(odds(20) ? rest + below(3) : rest);
+    uint8_t *r = add(n, 1, 0, 0), head[10];
+    if (odds(20)) a = odds(2) ? 0 : 161 + below(99);
+    memcpy(head, &said, 4);
+    head[4] = (uint8_t)kind, head[5] = 0, head[6] = (uint8_t)a, head[7] = (uint8_t)(a >> 8), head[8] = (uint8_t)b, head[9] = (uint8_t)(b >> 8);
+    if (n > 10) paint(r + 10, n - 10, a);
+    memcpy(r, head, n < 10 ? n : 10);
+    add(LCR_TEXT, 1, 1, 0), add(1, sizeof(size_t), 1, 0);
+    return n < 10 || kind != 1 || a < 1 || a > 160 || said != 6 + a * b || n < 10 + a * b ? LCR_RECORD : LCR_OK;
+}
+static uint32_t call_listing(void) { return lcr_listing(at(0), len(0), at(1), at(2)); }
+
+static const struct {
+    const char *name;
+    uint32_t (*make)(void), (*call)(void);
+} doors[] = {
+    {"lcr_picture", make_picture, call_picture}, {"lcr_outline", make_outline, call_outline},
+    {"lcr_convex_hull", make_hull, call_hull}, {"lcr_quad", make_quad, call_quad},
+    {"lcr_attempt", make_attempt, call_attempt}, {"lcr_version", make_version, call_version},
+    {"lcr_shell", make_cell, call_shell}, {"lcr_edge_and_offset", make_cell, call_edge},
+    {"lcr_position", make_place, call_position}, {"lcr_outer_cell", make_step, call_outer},
+    {"lcr_inner_cell", make_step, call_inner}, {"lcr_sequence_light", make_step, call_light},
+    {"lcr_classify", make_classify, call_classify}, {"lcr_correlate", make_correlate, call_correlate},
+    {"lcr_from_quad", make_from_quad, call_from_quad}, {"lcr_with_radial", make_radial, call_radial},
+    {"lcr_apply", make_map, call_apply}, {"lcr_apply_all", make_map_all, call_apply_all},
+    {"lcr_solve", make_solve, call_solve}, {"lcr_least_squares", make_fit, call_fit},
+    {"lcr_median", make_median, call_median}, {"lcr_mad_sigma", make_values, call_sigma},
+    {"lcr_listing", make_listing, call_listing},
+};
+
+/* ---- one call, at both places */
+
+static int same(const List *l, const uint8_t *a, const uint8_t *b, size_t from) {
+    for (size_t i = from; i < l->n; i++) {
+        const uint8_t *x = a + i * l->size, *y = b + i * l->size;
+        if (!memcmp(x, y, l->size)) continue;
+        float p, q;
+        double s, t;
+        if (l->real == 4 && (memcpy(&p, x, 4), memcpy(&q, y, 4), p != p && q != q)) continue;
+        if (l->real == 8 && (memcpy(&s, x, 8), memcpy(&t, y, 8), s != s && t != t)) continue;
+        return 0;
+    }
+    return 1;
+}
+static uint32_t once(int door, int begins) {
+    placed = begins;
+    for (int i = 0; i < lists; i++) {
+        size_t bytes = list[i].n * list[i].size;
+        list[i].at = begins ? list[i].area : list[i].area + AREA - bytes;
+        memcpy(list[i].at, list[i].before, bytes);
+    }
+    return doors[door].call();
+}
+static uint32_t both(int door) {
+    lists = 0;
+    want = doors[door].make();
+    uint32_t a = once(door, 0);
+    for (int i = 0; i < lists; i++) {
+        const List *l = &list[i];
+        memcpy(after[i], l->at, l->n * l->size);
+        if ((!l->written || a) && memcmp(l->at, l->before, l->n * l->size)) fail("a list has changed", i);
+        if (a == 0 && l->need < l->n && memcmp(l->at + l->need * l->size, l->before + l->need * l->size, (l->n - l->need) * l->size))
+            fail("a place past those needed has changed", i);
+    }
+    if (want == ANY ? a != LCR_OK && a != LCR_NONE : a != want) {
+        fprintf(stderr, "answered %u where %u is due\n", a, want);
+        fail("another result", -1);
+    }
+    if (once(door, 1) != a) fail("another result at the other place", -1);
+    for (int i = 0; i < lists; i++)
+        if (!same(&list[i], after[i], list[i].at, 0)) fail("other contents at the other place", i);
+    return a;
+}
+
+/* ---- all calls of a function, on a stack of their own */
+
+enum { DEEP = 8 << 20, PAINT = 0xA5 };
+static uint8_t *deep;
+static uint64_t seed, calls;
+static size_t counts[256];
+
+static void *run(void *door) {
+    size_t d = *(size_t *)door;
+    for (uint64_t i = 0; i < calls; i++) {
+        state = call_seed = seed * 1000003 + d * 10000000000u + i;
+        counts[both((int)d) & 255]++;
+    }
+    return 0;
+}
+/* How many bytes of the stack the calls of a function took. */
+static size_t run_deep(size_t d) {
+    pthread_t thread;
+    pthread_attr_t attr;
+    size_t free = 0;
+    memset(deep, PAINT, DEEP);
+    memset(counts, 0, sizeof counts);
+    pthread_attr_init(&attr);
+    if (pthread_attr_setstack(&attr, deep, DEEP) || pthread_create(&thread, &attr, run, &d) || pthread_join(thread, 0)) {
+        fprintf(stderr, "guards: no thread\n");
+        exit(2);
+    }
+    while (free < DEEP && deep[free] == PAINT) free++;
+    return DEEP - free;
+}
+
+int main(int argc, char **argv) {
+    if (argc < 3) {
+        fprintf(stderr, "guards SEED CALLS [NAME]\n");
+        return 2;
+    }
+    uint64_t all = 0;
+    struct sigaction s = {.sa_handler = touched};
+    seed = strtoull(argv[1], 0, 10), calls = strtoull(argv[2], 0, 10);
+    sigaction(SIGSEGV, &s, 0), sigaction(SIGBUS, &s, 0);
+    make_areas();
+    deep = mmap(0, DEEP, PROT_READ | PROT_WRITE, MAP_PRIVATE | MAP_ANONYMOUS, -1, 0);
+    if (deep == MAP_FAILED) return perror("guards"), 2;
+    for (size_t d = 0; d < sizeof doors / sizeof *doors; d++) {
+        name = doors[d].name;
+        if (argc > 3 && strcmp(argv[3], name)) continue;
+        size_t used = run_deep(d);
+        printf("%-20s %8llu calls at both places, %6zu bytes of stack, %zu answered, %zu none", name, (unsigned long long)calls, used,
+               counts[0], counts[255]);
+        for (int k = 1; k < 255; k++)
+            if (counts[k]) printf(", %zu refused %d", counts[k], k);
+        printf("\n");
+        fflush(stdout);
+        all += calls;
+    }
+    printf("attempts: %zu without a quad, %zu with a fix, %zu with a fallback\n", nones / 2, fixes / 2, fallbacks / 2);
+    printf("seed %llu: %llu calls, 0 different\n", (unsigned long long)seed, (unsigned long long)all);
+    return all ? 0 : 2;
+}
