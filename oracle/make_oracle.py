@@ -12,9 +12,16 @@ Two kinds of change are made, and no other; both are checked and listed in OUT/C
     demodulation, format reading, errors), with the `use` lines that name those modules;
   * `pub ` is put before private items, methods and fields.
 """
-import os, re, sys, shutil
+import os, re, sys
 
 HERE = os.path.dirname(os.path.abspath(__file__))
+
+def write(path, text):
+    """Writes a file, unless it holds this text already: cargo builds what is newer."""
+    os.makedirs(os.path.dirname(path), exist_ok=True)
+    if os.path.exists(path) and open(path, encoding="utf-8").read() == text:
+        return
+    open(path, "w", encoding="utf-8").write(text)
 
 def src_file(src, crate, name):
     for p in (os.path.join(src, f"src--crates--{crate}--src--{name}.txt"),
@@ -114,8 +121,7 @@ def main():
         c, p = check(orig, made, allowed, log, f"{crate}/{name}")
         summary.append(f"{crate}/{name}: {len(orig)} lines, {c} cut, {p} opened, {len(allowed)} replaced")
         path = os.path.join(out, crate, "src", name)
-        os.makedirs(os.path.dirname(path), exist_ok=True)
-        open(path, "w", encoding="utf-8").write("\n".join(made))
+        write(path, "\n".join(made))
 
     # lcr-core
     o = src_file(src, "lcr-core", "border_seq.rs")
@@ -135,7 +141,7 @@ def main():
     m = cut_item(m, "    pub const fn new(v: u8)")
     put("lcr-core", "version.rs", o, open_up(m))
     lib = "//! Oracle build of lcr-core: see CHANGES.txt.\npub mod border;\npub mod border_seq;\npub mod version;\npub use version::Version;\n"
-    open(os.path.join(out, "lcr-core/src/lib.rs"), "w").write(lib)
+    write(os.path.join(out, "lcr-core/src/lib.rs"), lib)
 
     # lcr-decode
     o = src_file(src, "lcr-decode", "math.rs")
@@ -157,24 +163,23 @@ def main():
         m = cut_item(m, head)
     put("lcr-decode", "ring.rs", o, open_up(m, fields=("InkMap", "Region")), (b_new, v_new))
     lib = "//! Oracle build of lcr-decode: see CHANGES.txt.\nextern crate alloc;\npub mod math;\npub mod ring;\npub mod transform;\n"
-    open(os.path.join(out, "lcr-decode/src/lib.rs"), "w").write(lib)
+    write(os.path.join(out, "lcr-decode/src/lib.rs"), lib)
 
     # manifests and driver
     def toml(crate, deps):
         t = f'[package]\nname = "{crate}"\nversion = "0.0.0"\nedition = "2024"\n\n[dependencies]\n'
         for d in deps:
             t += f'{d} = {{ path = "../{d}" }}\n'
-        open(os.path.join(out, crate, "Cargo.toml"), "w").write(t)
-    os.makedirs(os.path.join(out, "oracle/src"), exist_ok=True)
+        write(os.path.join(out, crate, "Cargo.toml"), t)
     toml("lcr-core", [])
     toml("lcr-decode", ["lcr-core"])
     toml("oracle", ["lcr-core", "lcr-decode"])
-    open(os.path.join(out, "Cargo.toml"), "w").write(
+    write(os.path.join(out, "Cargo.toml"),
         '[workspace]\nresolver = "3"\nmembers = ["lcr-core", "lcr-decode", "oracle"]\n\n'
         '[profile.release]\nopt-level = 3\ndebug = false\noverflow-checks = true\n\n'
         '# the published profile: no overflow checks; used for timings\n[profile.fast]\ninherits = "release"\noverflow-checks = false\n')
     # the finder's static library is linked where LCR_LIB names its folder
-    open(os.path.join(out, "oracle/build.rs"), "w").write(
+    write(os.path.join(out, "oracle/build.rs"),
         'fn main() {\n    println!("cargo::rustc-check-cfg=cfg(ours)");\n    println!("cargo::rerun-if-env-changed=LCR_LIB");\n'
         '    if let Ok(dir) = std::env::var("LCR_LIB") {\n        println!("cargo::rustc-cfg=ours");\n'
         '        println!("cargo::rustc-link-search=native={dir}");\n        println!("cargo::rustc-link-lib=static=exports");\n'
@@ -182,8 +187,8 @@ def main():
     if os.path.isdir(driver):
         for f in sorted(os.listdir(driver)):
             if f.endswith(".rs"):
-                shutil.copy(os.path.join(driver, f), os.path.join(out, "oracle/src", f))
-    open(os.path.join(out, "CHANGES.txt"), "w", encoding="utf-8").write(
+                write(os.path.join(out, "oracle/src", f), open(os.path.join(driver, f), encoding="utf-8").read())
+    write(os.path.join(out, "CHANGES.txt"),
         "\n".join(summary) + "\n\n" + "\n".join(log) + "\n")
     print("\n".join(summary))
 

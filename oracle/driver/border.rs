@@ -1,10 +1,11 @@
 //! lcr_core: versions, ring marks, cells and positions.
-use crate::calls::{Area, Call};
+use crate::calls::{Area, Call, Words};
 use crate::pic::Rng;
+use crate::smaller::Layout;
 use lcr_core::border;
 use lcr_core::version::Version;
 
-pub const AREA: Area = Area { name: "border", stored, random };
+pub const AREA: Area = Area { name: "border", stored, random, answer, layout: |_| Layout::heads(3) };
 
 /// Document 01's checks of cells: 8, then 12.
 fn refusal(kind: u32, v: u32, x: i32, y: i32) -> Option<u32> {
@@ -25,16 +26,20 @@ fn pair(c: (i32, i32)) -> Vec<u32> {
 }
 
 fn call(kind: u32, v: u32, a: u32, b: u32) -> Call {
-    let (x, y) = (a as i32, b as i32);
-    let want = match refusal(kind, v, x, y) {
-        Some(0) => vec![0, 0],
-        Some(n) => vec![n],
-        None => answer(kind, v, a, b),
-    };
-    Call { kind, args: vec![v, a, b], want }
+    AREA.call(kind, vec![v, a, b])
 }
 
-fn answer(kind: u32, v: u32, a: u32, b: u32) -> Vec<u32> {
+fn answer(kind: u32, args: &[u32]) -> Option<Vec<u32>> {
+    let mut w = Words(args);
+    let [v, a, b] = w.heads()?;
+    w.ended(match refusal(kind, v, a as i32, b as i32) {
+        Some(0) => vec![0, 0],
+        Some(n) => vec![n],
+        None => accepted(kind, v, a, b),
+    })
+}
+
+fn accepted(kind: u32, v: u32, a: u32, b: u32) -> Vec<u32> {
     let (x, y) = (a as i32, b as i32);
     let p = a as usize + ((b as usize) << 32);
     let side = if kind == 107 { 21 } else { Version::new_unchecked(v as u8).side() };

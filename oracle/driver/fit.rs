@@ -1,153 +1,11 @@
 //! fit and lens: lines, crossings, corners, bows, the lens and straightened points.
-use crate::calls::{Area, Call, w32};
+use crate::calls::{Area, Call, Words, w32};
+use crate::looks::{Look, P, Q, drawn, list, ring_of, tame, wild};
 use crate::pic::Rng;
+use crate::smaller::{Layout, Unit};
 use lcr_decode::ring;
 
-pub const AREA: Area = Area { name: "fit", stored, random };
-
-type P = (f32, f32);
-type Q = [P; 4];
-
-/// Boundary points as a ring's edges give them, their quad and the lens's centre.
-pub struct Ring {
-    pub points: Vec<P>,
-    pub quad: Q,
-    pub centre: P,
-}
-
-/// What a ring looks like: side and tilt, how far corners are off a square, the lens, noise in pixels, and
-/// the share of a corner that is damaged.
-#[derive(Clone, Copy)]
-pub struct Look {
-    pub side: f64,
-    pub tilt: f64,
-    pub skew: f64,
-    pub kappa: f64,
-    pub noise: f64,
-    pub damage: f64,
-    pub grid: bool,
-}
-
-pub fn ring_of(l: Look, centre: (f64, f64), off: (f64, f64), r: &mut Rng) -> Ring {
-    let (c, s) = (l.tilt.cos(), l.tilt.sin());
-    let h = l.side / 2.0;
-    let mut q = [(-h, -h), (h, -h), (h, h), (-h, h)];
-    for p in q.iter_mut() {
-        let (x, y) = (p.0 + (r.unit() - 0.5) * l.skew, p.1 + (r.unit() - 0.5) * l.skew);
-        *p = (off.0 + x * c - y * s, off.1 + x * s + y * c);
-    }
-    let bent = |x: f64, y: f64| {
-        let d = x * x + y * y;
-        let f = 1.0 - l.kappa * d + 3.0 * l.kappa * l.kappa * d * d;
-        (centre.0 + x * f, centre.1 + y * f)
-    };
-    let at = |v: f64| if l.grid { (v * 2.0).round() / 2.0 } else { v };
-    let mut points = Vec::new();
-    for e in 0..4 {
-        let (a, b) = (q[e], q[(e + 1) % 4]);
-        let n = (b.0 - a.0).abs().max((b.1 - a.1).abs()).ceil().max(1.0) as usize;
-        let (hit, depth) = (r.below(4) == 0, r.unit() * 20.0);
-        for k in 0..n {
-            let t = (k as f64 + 0.5) / n as f64;
-            let (mut x, mut y) = bent(a.0 + (b.0 - a.0) * t, a.1 + (b.1 - a.1) * t);
-            if hit && t < l.damage {
-                (x, y) = (x + depth * (0.5 - t), y + depth * (t - 0.3));
-            }
-            x += (r.unit() - 0.5) * l.noise;
-            y += (r.unit() - 0.5) * l.noise;
-            points.push((at(x) as f32, at(y) as f32));
-        }
-    }
-    let quad = q.map(|(x, y)| {
-        let (x, y) = bent(x, y);
-        (x as f32, y as f32)
-    });
-    Ring { points, quad, centre: (centre.0 as f32, centre.1 as f32) }
-}
-
-fn look(r: &mut Rng, most: f64) -> Look {
-    Look {
-        side: 8.0 + r.unit() * most,
-        tilt: if r.chance(0.3) { 0.0 } else { r.unit() * 1.6 },
-        skew: if r.chance(0.5) { 0.0 } else { r.unit() * 12.0 },
-        kappa: if r.chance(0.4) { 0.0 } else { (r.unit() - 0.5) * 4e-6 },
-        noise: if r.chance(0.3) { 0.0 } else { r.unit() * 3.0 },
-        damage: if r.chance(0.6) { 0.0 } else { r.unit() * 0.5 },
-        grid: r.chance(0.6),
-    }
-}
-
-/// A ring at random, with a quad that is its own, its hull's, or somewhat off.
-fn drawn(r: &mut Rng, most: f64) -> Ring {
-    let l = look(r, most);
-    let centre = (r.range(0, 400) as f64 / 2.0, r.range(0, 400) as f64 / 2.0);
-    let off = if r.chance(0.5) { (0.0, 0.0) } else { ((r.unit() - 0.5) * 200.0, (r.unit() - 0.5) * 200.0) };
-    let mut g = ring_of(l, centre, off, r);
-    if r.chance(0.5) {
-        g.quad = ring::quad(&ring::convex_hull(&g.points)).unwrap_or(g.quad);
-    }
-    if r.chance(0.3) {
-        let far = r.unit() as f32 * 30.0;
-        for p in g.quad.iter_mut() {
-            *p = (p.0 + (r.unit() as f32 - 0.5) * far, p.1 + (r.unit() as f32 - 0.5) * far);
-        }
-    }
-    if r.chance(0.03) {
-        g.quad[r.below(4) as usize].0 = wild(r);
-    }
-    if r.chance(0.03) {
-        g.quad[1] = g.quad[0];
-    }
-    if r.chance(0.1) {
-        let keep = r.below(40) as usize;
-        g.points.truncate(keep);
-    }
-    if r.chance(0.05) && !g.points.is_empty() {
-        let i = r.below(g.points.len() as u64) as usize;
-        g.points[i] = (wild(r), wild(r));
-    }
-    g
-}
-
-fn wild(r: &mut Rng) -> f32 {
-    match r.below(10) {
-        0 => f32::NAN,
-        1 => f32::INFINITY,
-        2 => f32::NEG_INFINITY,
-        3 => -0.0,
-        4 => 0.0,
-        5 => f32::from_bits(r.next() as u32),
-        6 => 1e30 * (r.unit() as f32 - 0.5),
-        7 => 1e-40 * (r.unit() as f32 - 0.5),
-        _ => (r.unit() as f32 - 0.5) * 300.0,
-    }
-}
-
-/// Points that the ring door takes. Past its limits a straightened point can be a NaN that this machine makes
-/// with its sign set, which the Rust's hull puts first and document 01 last.
-fn tame(points: &mut [P]) {
-    let one = |v: &mut f32| *v = if v.is_nan() { 7.0 } else { v.clamp(-32768.0, 32768.0) };
-    for p in points {
-        one(&mut p.0);
-        one(&mut p.1);
-    }
-}
-
-fn list(r: &mut Rng, n: u64) -> Vec<P> {
-    let wilds = r.chance(0.3);
-    let small = r.chance(0.3);
-    (0..n)
-        .map(|_| {
-            if wilds {
-                (wild(r), wild(r))
-            } else if small {
-                (r.range(0, 20) as f32 / 2.0, r.range(0, 20) as f32 / 2.0)
-            } else {
-                (r.unit() as f32 * 200.0, r.unit() as f32 * 200.0)
-            }
-        })
-        .collect()
-}
+pub const AREA: Area = Area { name: "fit", stored, random, answer, layout };
 
 fn flat(p: &[P]) -> impl Iterator<Item = u32> + '_ {
     p.iter().flat_map(|p| [w32(p.0), w32(p.1)])
@@ -165,54 +23,90 @@ fn some<const N: usize>(v: Option<[f32; N]>) -> Vec<u32> {
     v.map_or(vec![0, 0], |v| [0, 1].into_iter().chain(v.map(w32)).collect())
 }
 
+/// How many numbers stand before the points of a call.
+fn heads(kind: u32) -> usize {
+    [0, 11, 8, 8, 8, 17, 4, 11, 3][kind as usize - 800]
+}
+
+fn layout(kind: u32) -> Layout {
+    Layout::heads(heads(kind)).list(None, Unit::Word, 2)
+}
+
+fn point(v: &[f32]) -> P {
+    (v[0], v[1])
+}
+
+fn quad(v: &[f32]) -> Q {
+    [point(v), point(&v[2..]), point(&v[4..]), point(&v[6..])]
+}
+
+fn answer(kind: u32, args: &[u32]) -> Option<Vec<u32>> {
+    let v = Words(args).rest();
+    let (h, rest) = v.split_at_checked(heads(kind))?;
+    if rest.len() % 2 == 1 || ((kind == 802 || kind == 805) && !rest.is_empty()) {
+        return None;
+    }
+    let points: Vec<P> = rest.chunks(2).map(point).collect();
+    Some(match kind {
+        800 => {
+            let ((x, y), (u, v)) = ring::tls_line(&points);
+            [0].into_iter().chain([x, y, u, v].map(w32)).collect()
+        }
+        801 => {
+            let line = (point(&h[5..]), point(&h[7..]));
+            let got = ring::refit_middle(&points, point(h), point(&h[2..]), h[4], line, [h[9], h[10]], &mut Vec::new());
+            some(got.map(|((x, y), (u, v))| [x, y, u, v]))
+        }
+        802 => some(ring::intersect((point(h), point(&h[2..])), (point(&h[4..]), point(&h[6..]))).map(|(x, y)| [x, y])),
+        803 => [0].into_iter().chain(flat(&ring::refine_quad(&points, quad(h)))).collect(),
+        804 => ring::edge_quad(&points, quad(h)).map_or(vec![0, 0], |q| [0, 1].into_iter().chain(flat(&q)).collect()),
+        805 => vec![0, ring::same_quad(&quad(h), &quad(&h[8..]), h[16]) as u32],
+        806 => some(ring::bow_fit(&points, (h[0] != 0.0).then_some([h[1], h[2], h[3]])).map(|(f, se)| [f[0], f[1], f[2], se])),
+        807 => {
+            let (x, y, k) = ring::estimate_lens(&points, (h[2] != 0.0).then_some(quad(&h[3..])), point(h));
+            vec![0, w32(x), w32(y), w32(k)]
+        }
+        _ => [0].into_iter().chain(flat(&ring::undistort(&points, (h[0], h[1], h[2])))).collect(),
+    })
+}
+
 fn tls(points: &[P]) -> Call {
-    let ((x, y), (u, v)) = ring::tls_line(points);
-    Call { kind: 800, args: words(&[], points), want: vec![0, w32(x), w32(y), w32(u), w32(v)] }
+    AREA.call(800, words(&[], points))
 }
 
 fn refit(points: &[P], a: P, u: P, len: f32, fit: (P, P), tols: [f32; 2]) -> Call {
-    let head = [a.0, a.1, u.0, u.1, len, fit.0.0, fit.0.1, fit.1.0, fit.1.1, tols[0], tols[1]];
-    let got = ring::refit_middle(points, a, u, len, fit, tols, &mut Vec::new());
-    Call { kind: 801, args: words(&head, points), want: some(got.map(|((x, y), (u, v))| [x, y, u, v])) }
+    AREA.call(801, words(&[a.0, a.1, u.0, u.1, len, fit.0.0, fit.0.1, fit.1.0, fit.1.1, tols[0], tols[1]], points))
 }
 
 fn intersect(l: (P, P), m: (P, P)) -> Call {
-    let head = [l.0.0, l.0.1, l.1.0, l.1.1, m.0.0, m.0.1, m.1.0, m.1.1];
-    Call { kind: 802, args: words(&head, &[]), want: some(ring::intersect(l, m).map(|(x, y)| [x, y])) }
+    AREA.call(802, words(&[l.0.0, l.0.1, l.1.0, l.1.1, m.0.0, m.0.1, m.1.0, m.1.1], &[]))
 }
 
 fn refine(points: &[P], q: Q) -> Call {
-    let want = [0].into_iter().chain(flat(&ring::refine_quad(points, q))).collect();
-    Call { kind: 803, args: words(&numbers(&q), points), want }
+    AREA.call(803, words(&numbers(&q), points))
 }
 
 fn edge(points: &[P], q: Q) -> Call {
-    let want = ring::edge_quad(points, q).map_or(vec![0, 0], |q| [0, 1].into_iter().chain(flat(&q)).collect());
-    Call { kind: 804, args: words(&numbers(&q), points), want }
+    AREA.call(804, words(&numbers(&q), points))
 }
 
 fn same(p: Q, q: Q, tol: f32) -> Call {
-    let head: Vec<f32> = numbers(&p).into_iter().chain(numbers(&q)).chain([tol]).collect();
-    Call { kind: 805, args: words(&head, &[]), want: vec![0, ring::same_quad(&p, &q, tol) as u32] }
+    AREA.call(805, words(&[numbers(&p), numbers(&q), vec![tol]].concat(), &[]))
 }
 
 fn bow(samples: &[P], prev: Option<[f32; 3]>) -> Call {
     let [c0, c1, a] = prev.unwrap_or([0.0; 3]);
-    let head = [prev.is_some() as u8 as f32, c0, c1, a];
-    let want = some(ring::bow_fit(samples, prev).map(|(f, se)| [f[0], f[1], f[2], se]));
-    Call { kind: 806, args: words(&head, samples), want }
+    AREA.call(806, words(&[prev.is_some() as u8 as f32, c0, c1, a], samples))
 }
 
 fn lens(points: &[P], raw: Option<Q>, centre: P) -> Call {
     let mut head = vec![centre.0, centre.1, raw.is_some() as u8 as f32];
     head.extend(numbers(&raw.unwrap_or([(0.0, 0.0); 4])));
-    let (x, y, k) = ring::estimate_lens(points, raw, centre);
-    Call { kind: 807, args: words(&head, points), want: vec![0, w32(x), w32(y), w32(k)] }
+    AREA.call(807, words(&head, points))
 }
 
 fn undistort(points: &[P], l: (f32, f32, f32)) -> Call {
-    let want = [0].into_iter().chain(flat(&ring::undistort(points, l))).collect();
-    Call { kind: 808, args: words(&[l.0, l.1, l.2], points), want }
+    AREA.call(808, words(&[l.0, l.1, l.2], points))
 }
 
 /// Samples of a bow with noise, some far off.
@@ -416,70 +310,4 @@ fn stored() -> Vec<Call> {
         o.push(of_kind(800 + i % 9, &mut r, 60.0));
     }
     o
-}
-
-/// Times of `refine_quad`, `edge_quad` and `estimate_lens`, both sides on the same rings.
-#[cfg(ours)]
-pub fn bench() {
-    use std::hint::black_box;
-    use std::time::Instant;
-    unsafe extern "C" {
-        fn lcr_refine_quad(p: *const f32, n: usize, q: *mut f32, m: usize, buf: *mut f32, k: usize) -> u32;
-        fn lcr_edge_quad(p: *const f32, n: usize, q: *mut f32, m: usize, cand: *mut f32, c: usize, buf: *mut f32, k: usize) -> u32;
-        fn lcr_estimate_lens(p: *const f32, n: usize, q: *mut f32, m: usize, straight: *mut f32, c: usize, buf: *mut f32, k: usize) -> u32;
-    }
-    let mut r = Rng(1);
-    let mut rings = Vec::new();
-    for i in 0..300 {
-        let side = 100.0 + r.unit() * 300.0;
-        let tilt = if i % 3 == 0 { 0.0 } else { r.unit() * 1.6 };
-        let kappa = if i % 2 == 0 { 0.0 } else { (r.unit() - 0.5) * 1e-6 };
-        let l = Look { side, tilt, skew: 4.0, kappa, noise: r.unit() * 1.5, damage: if i % 4 == 0 { 0.2 } else { 0.0 }, grid: true };
-        let g = ring_of(l, (256.0, 256.0), (10.0, -20.0), &mut r);
-        let q = ring::quad(&ring::convex_hull(&g.points)).unwrap_or(g.quad);
-        let list: Vec<f32> = g.points.iter().flat_map(|p| [p.0, p.1]).collect();
-        rings.push((g, q, list));
-    }
-    let most = rings.iter().map(|g| g.2.len()).max().unwrap();
-    let (mut x, mut y) = (vec![0f32; most], vec![0f32; most]);
-    let points: usize = rings.iter().map(|g| g.0.points.len()).sum();
-    println!("{} rings of {} points on average; microseconds a call, Rust, finder, ratio (best of 9 rounds)", rings.len(), points / rings.len());
-    let mut best = [[f64::MAX; 2]; 3];
-    for _ in 0..9 {
-        let mut t = [[0f64; 2]; 3];
-        for (g, q, list) in &rings {
-            let mut timed = |k: usize, side: usize, f: &mut dyn FnMut()| {
-                let s = Instant::now();
-                f();
-                t[k][side] += s.elapsed().as_secs_f64() * 1e6;
-            };
-            timed(0, 0, &mut || { black_box(ring::refine_quad(&g.points, *q)); });
-            timed(1, 0, &mut || { black_box(ring::edge_quad(&g.points, *q)); });
-            timed(2, 0, &mut || { black_box(ring::estimate_lens(&g.points, Some(*q), g.centre)); });
-            let (p, n) = (list.as_ptr(), list.len());
-            let mut a: Vec<f32> = numbers(q);
-            timed(0, 1, &mut || unsafe { black_box(lcr_refine_quad(p, n, a.as_mut_ptr(), 8, x.as_mut_ptr(), x.len())); });
-            let mut a: Vec<f32> = numbers(q);
-            timed(1, 1, &mut || unsafe { black_box(lcr_edge_quad(p, n, a.as_mut_ptr(), 8, x.as_mut_ptr(), x.len(), y.as_mut_ptr(), y.len())); });
-            let mut a: Vec<f32> = numbers(q);
-            a.extend([g.centre.0, g.centre.1, 0.0]);
-            timed(2, 1, &mut || unsafe { black_box(lcr_estimate_lens(p, n, a.as_mut_ptr(), 11, x.as_mut_ptr(), x.len(), y.as_mut_ptr(), y.len())); });
-        }
-        for k in 0..3 {
-            for s in 0..2 {
-                best[k][s] = best[k][s].min(t[k][s] / rings.len() as f64);
-            }
-        }
-    }
-    for (k, name) in ["refine_quad", "edge_quad", "estimate_lens"].iter().enumerate() {
-        println!("{name:14} {:8.1} {:8.1} {:6.2}", best[k][0], best[k][1], best[k][1] / best[k][0]);
-    }
-    let sum = |s: usize| best.iter().map(|b| b[s]).sum::<f64>();
-    println!("{:14} {:8.1} {:8.1} {:6.2}", "together", sum(0), sum(1), sum(1) / sum(0));
-}
-
-#[cfg(not(ours))]
-pub fn bench() {
-    eprintln!("this build has no finder linked: oracle/run builds one that has");
-    std::process::exit(2);
 }

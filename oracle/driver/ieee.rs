@@ -1,8 +1,9 @@
 //! ieee: the root, f64 to f32, abs, max, finiteness, the total order, casts to whole numbers.
-use crate::calls::{w32, w64, Area, Call};
+use crate::calls::{w32, w64, Area, Call, Words};
 use crate::pic::Rng;
+use crate::smaller::Layout;
 
-pub const AREA: Area = Area { name: "ieee", stored, random };
+pub const AREA: Area = Area { name: "ieee", stored, random, answer, layout: |_| Layout::heads(2) };
 
 fn f64_of(low: u32, high: u32) -> f64 {
     f64::from_bits(low as u64 | (high as u64) << 32)
@@ -19,8 +20,14 @@ fn most(x: f32, y: f32) -> f32 {
 }
 
 fn call(kind: u32, a: u32, b: u32) -> Call {
+    AREA.call(kind, vec![a, b])
+}
+
+fn answer(kind: u32, args: &[u32]) -> Option<Vec<u32>> {
+    let mut words = Words(args);
+    let [a, b] = words.heads()?;
     let (x, y, w) = (f32::from_bits(a), f32::from_bits(b), f64_of(a, b));
-    let want = match kind {
+    words.ended(match kind {
         200 => vec![0, w32(x.sqrt())],
         201 => vec![0, w32(w as f32)],
         202 => vec![0, w32(x.abs())],
@@ -30,8 +37,7 @@ fn call(kind: u32, a: u32, b: u32) -> Call {
         206 => vec![0, before(x, y) as u32],
         207 => vec![0, x as u32],
         _ => vec![0, x as u8 as u32],
-    };
-    Call { kind, args: vec![a, b], want }
+    })
 }
 
 /// Zeros, subnormals, limits, powers of two and their neighbours, infinities, NaNs of either sign.

@@ -1,33 +1,54 @@
-// The oracle's driver: each command reads standard input and writes what the Rust answers.
-#![allow(dead_code)]
+// The oracle's driver: each word is a command; oracle/README.md lists them.
+#![cfg_attr(not(ours), allow(dead_code))]
 mod att;
 mod attempts;
-mod bench;
 mod border;
 mod calc;
 mod calls;
+mod cases;
 mod fit;
 mod fuzz;
 mod ieee;
+mod kinds;
 mod list;
+mod listing;
+mod looks;
 mod marks;
 mod math;
-mod numbers_bench;
 mod outline;
-mod outline_bench;
 mod pic;
 mod picture;
 mod ring;
+mod rings;
+mod smaller;
 mod transform;
+mod ways;
+#[cfg(ours)]
+mod bench;
+#[cfg(ours)]
+mod bench_leaves;
+#[cfg(ours)]
+mod compare;
+#[cfg(ours)]
+mod finder;
+#[cfg(ours)]
+mod finder_leaves;
+#[cfg(ours)]
+mod functions;
+#[cfg(ours)]
+mod largest;
+#[cfg(ours)]
+mod timed;
 use std::io::{Read, Write};
 
-const AREAS: &[&calls::Area] =
-    &[&border::AREA, &ieee::AREA, &math::AREA, &transform::AREA, &marks::AREA, &fit::AREA, &ring::AREA, &attempts::AREA, &picture::AREA, &outline::AREA, &outline::LISTING];
+const USAGE: &str = "usage: oracle WORD ..: without the finder traylist, sample, dump, attempt, attempt-verbose, attempt-case SEED I, ways SEED N, \
+picks, calc, fuzz SEED N, vectors AREA, program PATH SEED N; with it compare AREA|all SEED SECONDS [MOST], compare-selftest, replay FILE, poses, \
+bench [SEED], bench-leaves, largest";
 
-/// The areas of a name, or all of them.
-fn areas(name: &str) -> Vec<&'static calls::Area> {
-    AREAS.iter().copied().filter(|a| name == "all" || a.name == name).collect()
-}
+const AREAS: &[&calls::Area] = &[
+    &border::AREA, &ieee::AREA, &math::AREA, &transform::AREA, &marks::AREA, &fit::AREA, &ring::AREA, &attempts::AREA, &picture::AREA,
+    &outline::AREA, &listing::AREA,
+];
 
 fn stdin() -> Vec<u8> {
     let mut b = Vec::new();
@@ -35,40 +56,63 @@ fn stdin() -> Vec<u8> {
     b
 }
 
+/// A command's words.
+struct Said(Vec<String>);
+
+impl Said {
+    fn word(&self, i: usize) -> &str {
+        self.0.get(i).map_or("", |s| s.as_str())
+    }
+    fn num(&self, i: usize, or: u64) -> u64 {
+        self.0.get(i).and_then(|s| s.parse().ok()).unwrap_or(or)
+    }
+}
+
+/// The words that need the finder; whether it was one.
+#[cfg(ours)]
+fn with_finder(a: &Said) -> bool {
+    match a.word(1) {
+        "compare" => compare::run(a.word(2), a.num(3, 1), a.num(4, 20) as f64, a.num(5, u64::MAX)),
+        "compare-selftest" => compare::selftest(),
+        "replay" => compare::replay(a.word(2)),
+        "poses" => functions::poses(),
+        "bench" => bench::run(a.num(2, 1)),
+        "bench-leaves" => bench_leaves::run(),
+        "largest" => largest::run(a.num(2, 1)),
+        _ => return false,
+    }
+    true
+}
+
+#[cfg(not(ours))]
+fn with_finder(a: &Said) -> bool {
+    let known = ["compare", "compare-selftest", "replay", "poses", "bench", "bench-leaves", "largest"].contains(&a.word(1));
+    if known {
+        eprintln!("this build has no finder linked: oracle/run without LCR_ALONE builds one that has");
+        std::process::exit(2);
+    }
+    false
+}
+
 fn main() {
-    let a: Vec<String> = std::env::args().collect();
-    let num = |i: usize, d: u64| a.get(i).and_then(|s| s.parse().ok()).unwrap_or(d);
-    let say = |s: String| std::io::stdout().write_all(s.as_bytes()).unwrap();
-    match a.get(1).map(|s| s.as_str()) {
-        Some("traylist") => say(list::listing(&stdin())),
-        Some("sample") => std::io::stdout().write_all(&outline::sample()).unwrap(),
-        Some("program") => outline::program(&a[2], num(3, 1), num(4, 1000)),
-        Some("dump") => say(list::dump(&stdin())),
-        Some("attempt") => say(att::run(&att::decode(&stdin()))),
-        Some("attempt-verbose") => say(att::verbose(&att::decode(&stdin()))),
-        Some("attempts") => attempts::run(num(2, 1), num(3, 1000)),
-        Some("poses") => attempts::poses(),
-        Some("attempt-case") => std::io::stdout().write_all(&attempts::bytes(num(2, 1), num(3, 0))).unwrap(),
-        Some("calc") => calc::run(),
-        Some("fuzz") => fuzz::run(num(2, 1), num(3, 10000)),
-        Some("bench") if a.get(2).is_some_and(|s| s == "marks") => marks::bench(),
-        Some("bench") if a.get(2).is_some_and(|s| s == "picture") => picture::bench(),
-        Some("bench") if a.get(2).is_some_and(|s| s == "numbers") => numbers_bench::run(),
-        Some("bench") if a.get(2).map(|s| s.as_str()) == Some("fit") => fit::bench(),
-        Some("bench") if a.get(2).is_some_and(|s| s == "ring") => attempts::bench(),
-        Some("bench") if a.get(2).is_some_and(|s| s == "outline") => outline_bench::run(),
-        Some("bench") => bench::run(),
-        // wide SEED SECONDS [SIDE]: the picture door through its C function
-        Some("wide") => picture::wide(num(2, 1), num(3, 20) as f64, num(4, 1024) as i64),
-        Some("vectors") => areas(&a[2]).into_iter().for_each(calls::vectors),
-        // compare AREA|all SEED SECONDS [MOST]: the seconds are shared by the areas
-        Some("compare") => {
-            let which = areas(&a[2]);
-            let seconds = num(4, 20) as f64 / which.len().max(1) as f64;
-            which.into_iter().for_each(|x| calls::compare(x, num(3, 1), seconds, num(5, u64::MAX)));
-        }
+    let a = Said(std::env::args().collect());
+    let say = |b: &[u8]| std::io::stdout().write_all(b).unwrap();
+    match a.word(1) {
+        "traylist" => say(list::listing(&stdin()).as_bytes()),
+        "sample" => say(&listing::sample()),
+        "program" => listing::program(a.word(2), a.num(3, 1), a.num(4, 1000)),
+        "dump" => say(list::dump(&stdin()).as_bytes()),
+        "attempt" => say(att::run(&att::decode(&stdin())).as_bytes()),
+        "attempt-verbose" => say(att::verbose(&att::decode(&stdin())).as_bytes()),
+        "attempt-case" => say(&attempts::bytes(a.num(2, 1), a.num(3, 0))),
+        "ways" => ways::run(a.num(2, 1), a.num(3, 1000)),
+        "picks" => ways::picks(),
+        "calc" => calc::run(),
+        "fuzz" => fuzz::run(a.num(2, 1), a.num(3, 10000)),
+        "vectors" => AREAS.iter().filter(|x| x.name == a.word(2)).for_each(|x| calls::vectors(x)),
+        _ if with_finder(&a) => {}
         _ => {
-            eprintln!("usage: oracle traylist|sample|program PATH SEED N|dump|attempt|attempt-verbose|attempts SEED N|attempt-case SEED I|poses|calc|fuzz SEED N|bench|wide SEED SECONDS [SIDE]|vectors AREA|compare AREA|all SEED SECONDS [MOST]");
+            eprintln!("{USAGE}");
             std::process::exit(2);
         }
     }

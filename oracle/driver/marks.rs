@@ -1,16 +1,17 @@
 //! Ring marks: `classify` and `correlate`. Marks are bits, 32 to a word, lowest first.
-use crate::calls::{Area, Call, w32};
+use crate::calls::{Area, Call, Words, w32};
 use crate::pic::Rng;
+use crate::smaller::{Layout, Unit};
 use lcr_core::border;
 use lcr_decode::ring;
 
-pub const AREA: Area = Area { name: "marks", stored, random };
+pub const AREA: Area = Area { name: "marks", stored, random, answer, layout };
 
-fn positions(v: u32) -> usize {
+pub fn positions(v: u32) -> usize {
     16 * v as usize + 88
 }
 
-fn side(v: u32) -> u16 {
+pub fn side(v: u32) -> u16 {
     17 + 4 * v as u16
 }
 
@@ -33,32 +34,49 @@ fn refusal(v: u32, lengths: &[usize]) -> Option<u32> {
     }
 }
 
+fn layout(kind: u32) -> Layout {
+    if kind == 702 { Layout::heads(2).list(Some(1), Unit::Bit, 1) } else { Layout::heads(2).list(None, Unit::Word, 1) }
+}
+
+fn answer(kind: u32, args: &[u32]) -> Option<Vec<u32>> {
+    let mut w = Words(args);
+    let [v, n] = w.heads()?;
+    let n = n as usize;
+    if kind != 702 {
+        return Some(classified(kind, v, n, &w.rest()));
+    }
+    let words = w.take(n.div_ceil(32))?;
+    let marks: Vec<bool> = (0..n).map(|k| words[k / 32] >> (k % 32) & 1 == 1).collect();
+    w.ended(correlated(v, &marks))
+}
+
 /// 700: the answer; 701: the m lent marks after the call, which are lent with every third light.
-fn classify(kind: u32, v: u32, m: usize, lumas: &[f32]) -> Call {
-    let mut args = vec![v, m as u32];
-    args.extend(lumas.iter().map(|x| x.to_bits()));
-    let want = match refusal(v, &[lumas.len(), m]) {
+fn classified(kind: u32, v: u32, m: usize, lumas: &[f32]) -> Vec<u32> {
+    match refusal(v, &[lumas.len(), m]) {
         None => [vec![0], bits(&ring::classify(lumas))].concat(),
         Some(_) if kind == 701 => [vec![0], bits(&(0..m).map(|k| k % 3 == 0).collect::<Vec<_>>())].concat(),
         Some(n) => vec![n],
-    };
-    Call { kind, args, want }
+    }
 }
 
-/// 702: score, corner and reversal as the Rust has them; the eight counts, an addition, by document 01's maps.
+/// Score, corner and reversal as the Rust has them; the eight counts, an addition, by document 01's maps.
+fn correlated(v: u32, marks: &[bool]) -> Vec<u32> {
+    if let Some(n) = refusal(v, &[marks.len()]) {
+        return vec![n];
+    }
+    let (score, corner, reversed) = ring::correlate(marks, side(v));
+    let (n, q) = (positions(v), 4 * v as usize + 22);
+    let count = |r: usize, back: bool| (0..n).filter(|&p| marks[(r * q + if back { n - p } else { p }) % n] == border::sequence_light(side(v), p)).count() as u32;
+    let eight = (0..8).map(|k| count(k % 4, k >= 4));
+    [vec![0, w32(score), corner as u32, reversed as u32], eight.collect()].concat()
+}
+
+fn classify(kind: u32, v: u32, m: usize, lumas: &[f32]) -> Call {
+    AREA.call(kind, [vec![v, m as u32], lumas.iter().map(|x| x.to_bits()).collect()].concat())
+}
+
 fn correlate(v: u32, marks: &[bool]) -> Call {
-    let args = [vec![v, marks.len() as u32], bits(marks)].concat();
-    let want = match refusal(v, &[marks.len()]) {
-        Some(n) => vec![n],
-        None => {
-            let (score, corner, reversed) = ring::correlate(marks, side(v));
-            let (n, q) = (positions(v), 4 * v as usize + 22);
-            let count = |r: usize, back: bool| (0..n).filter(|&p| marks[(r * q + if back { n - p } else { p }) % n] == border::sequence_light(side(v), p)).count() as u32;
-            let eight = (0..8).map(|k| count(k % 4, k >= 4));
-            [vec![0, w32(score), corner as u32, reversed as u32], eight.collect()].concat()
-        }
-    };
-    Call { kind: 702, args, want }
+    AREA.call(702, [vec![v, marks.len() as u32], bits(marks)].concat())
 }
 
 /// The marks of a ring seen at a pose, a share of them turned over.
@@ -74,7 +92,7 @@ fn posed(v: u32, r: usize, back: bool, damage: f64, g: &mut Rng) -> Vec<bool> {
 const KINDS: u64 = 12;
 
 /// Lumas of one of `KINDS` kinds.
-fn lumas(kind: u64, v: u32, n: usize, g: &mut Rng) -> Vec<f32> {
+pub fn lumas(kind: u64, v: u32, n: usize, g: &mut Rng) -> Vec<f32> {
     let special = [f32::NAN, f32::INFINITY, f32::NEG_INFINITY, 3.4e38, -3.4e38, 0.0, -0.0, 1e-45, -1e-45];
     let ring = |p: usize, g: &mut Rng| (if border::sequence_light(side(v), p) { 200.0 } else { 40.0 }) + 60.0 * g.unit() as f32;
     let flat = g.below(256) as f32;
@@ -150,56 +168,4 @@ fn random(g: &mut Rng) -> Call {
     }
     let light = g.unit();
     correlate(v, &(0..a).map(|_| g.chance(light)).collect::<Vec<_>>())
-}
-
-#[cfg(ours)]
-unsafe extern "C" {
-    fn lcr_classify(version: u8, lumas: *const f32, n: usize, marks: *mut bool, m: usize) -> u32;
-    fn lcr_correlate(version: u8, marks: *const bool, n: usize, score: *mut f32, corner: *mut usize, reversed: *mut bool, counts: *mut u16) -> u32;
-}
-
-/// Both sides on one ring of each of the 64 versions, best of 30 runs by turns: milliseconds and their ratio.
-#[cfg(ours)]
-pub fn bench() {
-    use std::hint::black_box;
-    use std::time::Instant;
-    let mut g = Rng(700);
-    for kind in [5, 0, 6, 11, 4] {
-        let rings: Vec<Vec<f32>> = (1..=64).map(|v| lumas(kind, v, positions(v), &mut g)).collect();
-        let mut marks: Vec<Vec<bool>> = rings.iter().map(|l| vec![false; l.len()]).collect();
-        let mut best = [f64::MAX; 4];
-        let mut note = |k: usize, t: Instant| best[k] = best[k].min(t.elapsed().as_secs_f64() * 1e3);
-        for _ in 0..30 {
-            let t = Instant::now();
-            rings.iter().for_each(|l| drop(black_box(ring::classify(black_box(l)))));
-            note(0, t);
-            let t = Instant::now();
-            for (l, m) in rings.iter().zip(&mut marks) {
-                let v = ((l.len() - 88) / 16) as u8;
-                assert_eq!(unsafe { lcr_classify(v, l.as_ptr(), l.len(), m.as_mut_ptr(), m.len()) }, 0);
-            }
-            note(1, t);
-            let t = Instant::now();
-            for m in &marks {
-                black_box(ring::correlate(black_box(m), side((m.len() as u32 - 88) / 16)));
-            }
-            note(2, t);
-            let t = Instant::now();
-            for m in &marks {
-                let (mut s, mut r, mut b, mut c) = (0.0, 0, false, [0u16; 8]);
-                let v = ((m.len() - 88) / 16) as u8;
-                assert_eq!(unsafe { lcr_correlate(v, m.as_ptr(), m.len(), &mut s, &mut r, &mut b, c.as_mut_ptr()) }, 0);
-                black_box((s, r, b, c));
-            }
-            note(3, t);
-        }
-        assert!(rings.iter().zip(&marks).all(|(l, m)| ring::classify(l) == *m));
-        println!("lumas {kind:>2}: classify Rust {:.2} finder {:.2} ratio {:.2}; correlate Rust {:.3} finder {:.3} ratio {:.2}",
-            best[0], best[1], best[1] / best[0], best[2], best[3], best[3] / best[2]);
-    }
-}
-
-#[cfg(not(ours))]
-pub fn bench() {
-    eprintln!("this build has no finder linked: oracle/run builds one that has");
 }

@@ -1,10 +1,11 @@
 //! math: equations, least squares, medians, with document 01's refusals 9 and 10.
-use crate::calls::{w32, w64, Area, Call};
+use crate::calls::{w32, w64, Area, Call, Words};
 use crate::ieee;
 use crate::pic::Rng;
+use crate::smaller::{Layout, Unit};
 use lcr_decode::math;
 
-pub const AREA: Area = Area { name: "math", stored, random };
+pub const AREA: Area = Area { name: "math", stored, random, answer, layout };
 
 fn longs(v: &[f64]) -> Vec<u32> {
     v.iter().flat_map(|&x| w64(x)).collect()
@@ -18,25 +19,49 @@ fn solution(x: Option<Vec<f64>>) -> Vec<u32> {
     })
 }
 
-pub fn solve(n: usize, a: &[f64], b: &[f64]) -> Call {
-    let args = [vec![n as u32, a.len() as u32, b.len() as u32], longs(a), longs(b)].concat();
-    let want = if !(1..=8).contains(&n) || a.len() != n * n || b.len() != n {
-        vec![9]
-    } else {
-        solution(math::solve(&mut a.to_vec(), &mut b.to_vec(), n))
-    };
-    Call { kind: 300, args, want }
+fn layout(kind: u32) -> Layout {
+    if kind < 302 {
+        return Layout::heads(3).list(Some(1), Unit::Long, 1).list(Some(2), Unit::Long, 1);
+    }
+    Layout::heads(0).list(None, Unit::Word, 1)
 }
 
-pub fn least_squares(n: usize, basis: &[f64], targets: &[f64]) -> Call {
-    let args = [vec![n as u32, basis.len() as u32, targets.len() as u32], longs(basis), longs(targets)].concat();
-    let want = if !(1..=8).contains(&n) || basis.len() != targets.len() * n {
-        vec![9]
-    } else {
-        let rows: Vec<(Vec<f64>, f64)> = basis.chunks(n).map(|c| c.to_vec()).zip(targets.iter().copied()).collect();
-        solution(math::least_squares(&rows, n))
-    };
-    Call { kind: 301, args, want }
+fn answer(kind: u32, args: &[u32]) -> Option<Vec<u32>> {
+    let mut w = Words(args);
+    if kind >= 302 {
+        let v = w.rest();
+        return Some(if kind == 302 { median_words(&v) } else { mad_words(&v) });
+    }
+    let [n, la, lb] = w.heads()?.map(|x| x as usize);
+    let (a, b) = (w.doubles(la)?, w.doubles(lb)?);
+    w.ended(if kind == 300 { solve_words(n, a, b) } else { least_words(n, &a, &b) })
+}
+
+fn solve_words(n: usize, mut a: Vec<f64>, mut b: Vec<f64>) -> Vec<u32> {
+    if !(1..=8).contains(&n) || a.len() != n * n || b.len() != n {
+        return vec![9];
+    }
+    solution(math::solve(&mut a, &mut b, n))
+}
+
+fn least_words(n: usize, basis: &[f64], targets: &[f64]) -> Vec<u32> {
+    if !(1..=8).contains(&n) || basis.len() != targets.len() * n {
+        return vec![9];
+    }
+    let rows: Vec<(Vec<f64>, f64)> = basis.chunks(n).map(|c| c.to_vec()).zip(targets.iter().copied()).collect();
+    solution(math::least_squares(&rows, n))
+}
+
+fn equations(kind: u32, n: usize, a: &[f64], b: &[f64]) -> Call {
+    AREA.call(kind, [vec![n as u32, a.len() as u32, b.len() as u32], longs(a), longs(b)].concat())
+}
+
+fn solve(n: usize, a: &[f64], b: &[f64]) -> Call {
+    equations(300, n, a, b)
+}
+
+fn least_squares(n: usize, basis: &[f64], targets: &[f64]) -> Call {
+    equations(301, n, basis, targets)
 }
 
 /// Document 01's checks of values: 9, then 10.
@@ -50,21 +75,27 @@ fn refusal(v: &[f32]) -> Option<u32> {
     }
 }
 
-pub fn median(v: &[f32]) -> Call {
+fn median_words(v: &[f32]) -> Vec<u32> {
     let mut left = v.to_vec();
-    let want = refusal(v).map_or_else(
+    refusal(v).map_or_else(
         || {
             let m = math::median(&mut left);
             [vec![0, w32(m)], left.iter().map(|&x| w32(x)).collect()].concat()
         },
         |n| vec![n],
-    );
-    Call { kind: 302, args: v.iter().map(|x| x.to_bits()).collect(), want }
+    )
 }
 
-pub fn mad_sigma(v: &[f32]) -> Call {
-    let want = refusal(v).map_or_else(|| vec![0, w32(math::mad_sigma(v))], |n| vec![n]);
-    Call { kind: 303, args: v.iter().map(|x| x.to_bits()).collect(), want }
+fn mad_words(v: &[f32]) -> Vec<u32> {
+    refusal(v).map_or_else(|| vec![0, w32(math::mad_sigma(v))], |n| vec![n])
+}
+
+fn median(v: &[f32]) -> Call {
+    AREA.call(302, v.iter().map(|x| x.to_bits()).collect())
+}
+
+fn mad_sigma(v: &[f32]) -> Call {
+    AREA.call(303, v.iter().map(|x| x.to_bits()).collect())
 }
 
 /// Some values to be ordered: few different ones, any finite f32, near the limits, or subnormal.

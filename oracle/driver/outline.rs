@@ -1,32 +1,31 @@
-//! The outline door, hull and quad; the tray list.
-use crate::calls::{packed, w32, Area, Call};
-use crate::list;
+//! The outline door, hull and quad.
+use crate::calls::{Area, Call, Words, packed, w32};
 use crate::pic::{self, Pic, Rng};
+use crate::smaller::{Layout, Unit};
 use lcr_decode::ring::{self, InkMap};
 
-pub const AREA: Area = Area { name: "outline", stored, random };
-pub const LISTING: Area = Area { name: "listing", stored: stored_listings, random: |r| listing_call(&record(r)) };
+pub const AREA: Area = Area { name: "outline", stored, random, answer, layout };
 
 /// What place k of a lent list holds before the call.
-fn lent(k: usize) -> f32 {
+pub fn lent(k: usize) -> f32 {
     k as f32 + 0.25
 }
 
 /// A call of the outline door.
-struct Outline {
-    want: u32,
-    w: u32,
-    h: u32,
-    bbox: [u32; 4],
-    bytes: Vec<u8>,
-    levels: Vec<u8>,
-    labels: Vec<u32>,
-    room: usize,
+pub struct Outline {
+    pub want: u32,
+    pub w: u32,
+    pub h: u32,
+    pub bbox: [u32; 4],
+    pub bytes: Vec<u8>,
+    pub levels: Vec<u8>,
+    pub labels: Vec<u32>,
+    pub room: usize,
 }
 
 impl Outline {
     /// The whole picture's own grids, and a list with some room.
-    fn of(p: &Pic, want: u32, bbox: [u32; 4], more: usize) -> Outline {
+    pub fn of(p: &Pic, want: u32, bbox: [u32; 4], more: usize) -> Outline {
         let ink = InkMap::new(&p.g, p.w, p.h);
         let room = 4 * (bbox[2].saturating_sub(bbox[0]) + bbox[3].saturating_sub(bbox[1])) as usize + more;
         Outline { want, w: p.w, h: p.h, bbox, bytes: p.g.clone(), levels: ink.threshold, labels: ink.label, room }
@@ -53,13 +52,30 @@ impl Outline {
         }
     }
 
-    fn call(&self, kind: u32) -> Call {
+    pub fn args(&self) -> Vec<u32> {
         let [x0, y0, x1, y1] = self.bbox;
         let mut args = vec![self.want, self.w, self.h, x0, y0, x1, y1];
         args.extend([self.bytes.len() as u32, self.levels.len() as u32, self.labels.len() as u32, self.room as u32]);
         args.extend(packed(&self.bytes));
         args.extend(packed(&self.levels));
         args.extend(&self.labels);
+        args
+    }
+
+    pub fn parse(args: &[u32]) -> Option<Outline> {
+        let mut words = Words(args);
+        let [want, w, h, x0, y0, x1, y1, n, g, l, room] = words.heads()?;
+        let (bytes, levels, labels) = (words.bytes(n as usize)?, words.bytes(g as usize)?, words.take(l as usize)?.to_vec());
+        words.ended(Outline { want, w, h, bbox: [x0, y0, x1, y1], bytes, levels, labels, room: room as usize })
+    }
+
+    fn call(&self, kind: u32) -> Call {
+        AREA.call(kind, self.args())
+    }
+
+    /// 600: the number of points and the lent list, or the refusal. 601: the lent list.
+    fn answer(&self, kind: u32) -> Vec<u32> {
+        let [x0, y0, x1, y1] = self.bbox;
         let n = self.refusal();
         let mut list: Vec<f32> = (0..self.room).map(lent).collect();
         let mut points = 0;
@@ -77,12 +93,31 @@ impl Outline {
             }
         }
         let list = list.iter().map(|&v| w32(v));
-        let want = match (kind, n) {
+        match (kind, n) {
             (600, 0) => [0, points as u32].into_iter().chain(list).collect(),
             (600, n) => vec![n],
             _ => [0].into_iter().chain(list).collect(),
-        };
-        Call { kind, args, want }
+        }
+    }
+}
+
+fn layout(kind: u32) -> Layout {
+    match kind {
+        600 | 601 => Layout::heads(11).grid(7, Unit::Byte, 1).grid(8, Unit::Byte, 16).grid(9, Unit::Word, 8).sides(1, 2).bbox(3),
+        602 => Layout::heads(1).list(None, Unit::Word, 2),
+        _ => Layout::heads(0).list(None, Unit::Word, 2),
+    }
+}
+
+fn answer(kind: u32, args: &[u32]) -> Option<Vec<u32>> {
+    match kind {
+        600 | 601 => Some(Outline::parse(args)?.answer(kind)),
+        602 => {
+            let mut w = Words(args);
+            let [m] = w.heads()?;
+            Some(hull_words(&w.rest(), m as usize))
+        }
+        _ => Some(quad_words(&Words(args).rest())),
     }
 }
 
@@ -101,11 +136,9 @@ fn num(v: f32) -> f32 {
     if v.is_nan() { f32::from_bits(0x7fc0_0000) } else { v }
 }
 
-fn hull_call(p: &[f32], m: usize) -> Call {
-    let mut args = vec![m as u32];
-    args.extend(p.iter().map(|&v| w32(v)));
+fn hull_words(p: &[f32], m: usize) -> Vec<u32> {
     if m < p.len() {
-        return Call { kind: 602, args, want: vec![3] };
+        return vec![3];
     }
     let v = hull(&pairs(p));
     let mut list: Vec<f32> = (0..m).map(lent).collect();
@@ -113,27 +146,23 @@ fn hull_call(p: &[f32], m: usize) -> Call {
         list[2 * k] = q.0;
         list[2 * k + 1] = q.1;
     }
-    let want = [0, v.len() as u32].into_iter().chain(list.iter().map(|&v| w32(v))).collect();
-    Call { kind: 602, args, want }
+    [0, v.len() as u32].into_iter().chain(list.iter().map(|&v| w32(v))).collect()
 }
 
-fn quad_call(p: &[f32]) -> Call {
-    let args = p.iter().map(|&v| w32(v)).collect();
+pub fn hull_call(p: &[f32], m: usize) -> Call {
+    AREA.call(602, [m as u32].into_iter().chain(p.iter().map(|&v| w32(v))).collect())
+}
+
+fn quad_words(p: &[f32]) -> Vec<u32> {
     let plus: Vec<(f32, f32)> = pairs(p).iter().map(|q| (num(q.0), num(q.1))).collect();
-    let want = match ring::quad(&plus) {
+    match ring::quad(&plus) {
         None => vec![0, 0],
         Some(q) => [0, 1].into_iter().chain(q.iter().flat_map(|c| [w32(c.0), w32(c.1)])).collect(),
-    };
-    Call { kind: 603, args, want }
+    }
 }
 
-fn listing_call(record: &[u8]) -> Call {
-    let mut args = vec![record.len() as u32];
-    args.extend(packed(record));
-    let text = list::listing(record);
-    let mut want = vec![0, text.len() as u32];
-    want.extend(packed(text.as_bytes()));
-    Call { kind: 604, args, want }
+pub fn quad_call(p: &[f32]) -> Call {
+    AREA.call(603, p.iter().map(|&v| w32(v)).collect())
 }
 
 /// A coordinate: small halves with repeats, halves up to 1,024, small whole numbers, or anything.
@@ -188,66 +217,6 @@ fn outline(r: &mut Rng) -> Outline {
         _ => {}
     }
     o
-}
-
-/// Squares and discs of ink in the corners and in the middle, far enough apart to be five regions: one more than are kept.
-fn squares(r: &mut Rng) -> Pic {
-    let mut p = Pic::new(160, 160, 255);
-    for (right, low) in [(false, false), (true, false), (false, true), (true, true)] {
-        let n = r.range(31, 40);
-        let (x, y) = (if right { 160 - n } else { 0 }, if low { 160 - n } else { 0 });
-        if r.chance(0.3) {
-            p.disc(x as f64 + n as f64 / 2.0, y as f64 + n as f64 / 2.0, n as f64 / 2.0, n as f64 / 2.0, 0);
-        } else {
-            p.rect(x, y, x + n, y + n, 0);
-        }
-    }
-    p.rect(64, 64, 96, 96, 0);
-    p
-}
-
-/// The record of a picture to try the tray list on.
-pub fn sample() -> Vec<u8> {
-    squares(&mut Rng(7)).record()
-}
-
-/// A record, now and then damaged or cut or longer than it says.
-fn record(r: &mut Rng) -> Vec<u8> {
-    let most = if r.chance(0.5) { 64 } else { 160 };
-    let (w, h) = (r.range(1, most) as u32, r.range(1, most) as u32);
-    let mut b = if r.chance(0.1) { squares(r).record() } else { pic::generate(r.next(), w, h, r).record() };
-    match r.below(16) {
-        0 => b.truncate(r.below(b.len() as u64 + 1) as usize),
-        1 => b.truncate(r.below(11) as usize),
-        2 => { let i = r.below(10) as usize; b[i] ^= 1 << r.below(8); }
-        3 => b.extend((0..r.below(20)).map(|_| 7u8)),
-        4 => { let v = [0u16, 1, 160, 161, 4096][r.below(5) as usize].to_le_bytes(); let i = 6 + 2 * r.below(2) as usize; b[i] = v[0]; b[i + 1] = v[1]; }
-        5 => { let i = r.below(b.len() as u64) as usize; b[i] = r.next() as u8; }
-        _ => {}
-    }
-    b
-}
-
-/// The program `traylist` at `path` on random records, its output held against the Rust's listing. Exits with 1 at the first difference.
-pub fn program(path: &str, seed: u64, n: u64) {
-    use std::io::Write;
-    use std::process::{Command, Stdio};
-    let (mut refused, mut regions) = (0u64, [0u64; 5]);
-    for i in 0..n {
-        let b = record(&mut Rng(seed.wrapping_mul(0x1_0000_0001).wrapping_add(i)));
-        let mut child = Command::new(path).stdin(Stdio::piped()).stdout(Stdio::piped()).spawn().unwrap();
-        // the program may end without reading what follows the record
-        let _ = child.stdin.take().unwrap().write_all(&b);
-        let got = child.wait_with_output().unwrap().stdout;
-        let want = list::listing(&b);
-        if got != want.as_bytes() {
-            println!("traylist differs at seed {seed} record {i}\n  Rust   {want:?}\n  finder {:?}", String::from_utf8_lossy(&got));
-            std::process::exit(1);
-        }
-        refused += want.starts_with("refused") as u64;
-        regions[want.matches("region ").count()] += 1;
-    }
-    println!("traylist {n} records from seed {seed}, {refused} refused, listings with 0 to 4 kept regions {regions:?}: 0 different");
 }
 
 fn random(r: &mut Rng) -> Call {
@@ -343,37 +312,6 @@ fn stored() -> Vec<Call> {
     for _ in 0..60 {
         o.push(outline(&mut r).call(600));
         o.push(outline(&mut r).call(601));
-    }
-    o
-}
-
-/// Document 01's example, each damage of its record, and pictures of every kind.
-fn stored_listings() -> Vec<Call> {
-    let mut o = Vec::new();
-    let mut r = Rng(21);
-    let mut example = Pic::new(64, 64, 255);
-    example.rect(16, 16, 48, 48, 0);
-    let b = example.record();
-    o.push(listing_call(&b));
-    for n in [0, 1, 3, 4, 9, 10, 11, b.len() - 1] {
-        o.push(listing_call(&b[..n]));
-    }
-    for i in 0..10 {
-        let mut c = b.clone();
-        c[i] = c[i].wrapping_add(1);
-        o.push(listing_call(&c));
-    }
-    o.push(listing_call(&[&b[..], &[1, 2, 3]].concat()));
-    for (w, h) in [(1, 1), (160, 160), (160, 1), (1, 160), (161, 1), (1, 161), (8, 8), (16, 16)] {
-        o.push(listing_call(&Pic::new(w, h, 255).record()));
-        o.push(listing_call(&Pic::new(w, h, 0).record()));
-    }
-    for k in 0..150 {
-        let (w, h) = (r.range(20, 96) as u32, r.range(20, 96) as u32);
-        o.push(listing_call(&pic::generate(k, w, h, &mut r).record()));
-    }
-    for _ in 0..12 {
-        o.push(listing_call(&squares(&mut r).record()));
     }
     o
 }

@@ -2,26 +2,27 @@
 //!
 //! A call lends lists whose places hold `lent` numbers, so that untouched places show. The Rust has no refusals and no
 //! lent lists: document 01's checks are here, and places past those needed are expected as they were lent.
-use crate::calls::{Area, Call, packed};
+use crate::calls::{Area, Call, Words, packed};
 use crate::pic::{KINDS, Pic, Rng, generate, moved};
+use crate::smaller::{Layout, Unit};
 use lcr_decode::ring::InkMap;
 
-pub const AREA: Area = Area { name: "picture", stored, random };
+pub const AREA: Area = Area { name: "picture", stored, random, answer, layout: |_| layout() };
 
 /// What a place of a lent list holds before the call.
-fn lent8(k: usize) -> u8 {
+pub fn lent8(k: usize) -> u8 {
     (k * 7 + 3) as u8
 }
 
-fn lent32(k: usize) -> u32 {
+pub fn lent32(k: usize) -> u32 {
     (k as u32).wrapping_mul(0x9e37_79b1) | 1
 }
 
-fn level_cells(w: usize, h: usize) -> usize {
+pub fn level_cells(w: usize, h: usize) -> usize {
     w.div_ceil(16) * h.div_ceil(16)
 }
 
-fn region_cells(w: usize, h: usize) -> usize {
+pub fn region_cells(w: usize, h: usize) -> usize {
     w.div_ceil(8) * h.div_ceil(8)
 }
 
@@ -58,6 +59,14 @@ struct Outcome {
     labels: Vec<u32>,
 }
 
+impl Outcome {
+    fn lists(&self, w: usize, h: usize, stack: usize) -> Vec<u32> {
+        let open = if self.refused == 0 { region_cells(w, h) } else { 0 };
+        let left = (0..stack).map(|k| if k < open { 0 } else { lent32(k) });
+        [packed(&self.grid), self.labels.clone(), left.collect()].concat()
+    }
+}
+
 fn outcome(s: &[u8], w: usize, h: usize, grid: usize, labels: usize, stack: usize) -> Outcome {
     let refused = refusal(w, h, s.len(), grid, labels, stack);
     let mut o = Outcome { refused, regions: vec![0; 26], grid: (0..grid).map(lent8).collect(), labels: (0..labels).map(lent32).collect() };
@@ -70,25 +79,50 @@ fn outcome(s: &[u8], w: usize, h: usize, grid: usize, labels: usize, stack: usiz
     o
 }
 
+pub fn layout() -> Layout {
+    Layout::heads(6).grid(2, Unit::Byte, 1).sides(0, 1)
+}
+
 /// 500: the answer. 501: the lists after the call, refused or not; the needed places of an accepted call's stack as 0.
-fn call(kind: u32, s: &[u8], w: usize, h: usize, grid: usize, labels: usize, stack: usize) -> Call {
-    let o = outcome(s, w, h, grid, labels, stack);
-    let args = [vec![w as u32, h as u32, s.len() as u32, grid as u32, labels as u32, stack as u32], packed(s)].concat();
-    let want = if kind == 501 {
-        let open = if o.refused == 0 { region_cells(w, h) } else { 0 };
-        let left = (0..stack).map(|k| if k < open { 0 } else { lent32(k) });
-        [vec![0, o.refused], packed(&o.grid), o.labels, left.collect()].concat()
+fn answer(kind: u32, args: &[u32]) -> Option<Vec<u32>> {
+    let mut words = Words(args);
+    let [w, h, n, grid, labels, stack] = words.heads()?.map(|x| x as usize);
+    let s = words.bytes(n)?;
+    let o = outcome(&s, w, h, grid, labels, stack);
+    words.ended(if kind == 501 {
+        [vec![0, o.refused], o.lists(w, h, stack)].concat()
     } else if o.refused != 0 {
         vec![o.refused]
     } else {
         [vec![0], o.regions].concat()
-    };
-    Call { kind, args, want }
+    })
+}
+
+/// Answer and lists at once: the number, the regions (of an accepted call), the lists. For the C function.
+pub fn whole(args: &[u32]) -> Option<Vec<u32>> {
+    let mut words = Words(args);
+    let [w, h, n, grid, labels, stack] = words.heads()?.map(|x| x as usize);
+    let o = outcome(&words.bytes(n)?, w, h, grid, labels, stack);
+    let lists = o.lists(w, h, stack);
+    words.ended([vec![o.refused], o.regions, lists].concat())
+}
+
+fn call(kind: u32, s: &[u8], w: usize, h: usize, grid: usize, labels: usize, stack: usize) -> Call {
+    AREA.call(kind, args(s, w, h, grid, labels, stack))
+}
+
+fn args(s: &[u8], w: usize, h: usize, grid: usize, labels: usize, stack: usize) -> Vec<u32> {
+    [[w, h, s.len(), grid, labels, stack].map(|x| x as u32).to_vec(), packed(s)].concat()
+}
+
+/// The words of a call whose lists have the places that it needs and some more.
+pub fn fits(p: &Pic, spare: usize) -> Vec<u32> {
+    let (w, h) = (p.w as usize, p.h as usize);
+    args(&p.g, w, h, level_cells(w, h) + spare, region_cells(w, h) + spare, region_cells(w, h) + spare)
 }
 
 fn fitting(kind: u32, p: &Pic, spare: usize) -> Call {
-    let (w, h) = (p.w as usize, p.h as usize);
-    call(kind, &p.g, w, h, level_cells(w, h) + spare, region_cells(w, h) + spare, region_cells(w, h) + spare)
+    AREA.call(kind, fits(p, spare))
 }
 
 /// The picture of document 01's listing.
@@ -167,182 +201,4 @@ fn random(r: &mut Rng) -> Call {
     let (g, l, k) = (near(level_cells(w, h), r), near(region_cells(w, h), r), near(region_cells(w, h), r));
     let (v, u) = if r.chance(0.3) { (near(w, r), near(h, r)) } else { (w, h) };
     call(kind, &p.g, v, u, g, l, k)
-}
-
-#[cfg(ours)]
-unsafe extern "C" {
-    #[allow(clippy::too_many_arguments)]
-    fn lcr_picture(
-        s: *const u8, n: usize, w: usize, h: usize, grid: *mut u8, g: usize, labels: *mut u32, l: usize, stack: *mut u32, k: usize, regions: *mut u32,
-    ) -> u32;
-}
-
-/// The door's lists, with `spare` places past those needed.
-#[cfg(ours)]
-struct Lent {
-    grid: Vec<u8>,
-    labels: Vec<u32>,
-    stack: Vec<u32>,
-    out: Vec<u32>,
-}
-
-#[cfg(ours)]
-impl Lent {
-    fn new(w: usize, h: usize, spare: usize) -> Lent {
-        let n = region_cells(w, h) + spare;
-        Lent { grid: (0..level_cells(w, h) + spare).map(lent8).collect(), labels: (0..n).map(lent32).collect(), stack: (0..n).map(lent32).collect(), out: vec![0; 26] }
-    }
-    fn call(&mut self, p: &Pic) -> u32 {
-        unsafe {
-            lcr_picture(
-                p.g.as_ptr(), p.g.len(), p.w as usize, p.h as usize, self.grid.as_mut_ptr(), self.grid.len(), self.labels.as_mut_ptr(), self.labels.len(),
-                self.stack.as_mut_ptr(), self.stack.len(), self.out.as_mut_ptr(),
-            )
-        }
-    }
-}
-
-/// The generators' kinds, then cells far enough apart to be regions of their own, a slope of greys under shapes, and
-/// pixels here and there.
-#[cfg(ours)]
-const WIDE: u64 = KINDS + 3;
-
-#[cfg(ours)]
-fn wild(kind: u64, w: u32, h: u32, r: &mut Rng) -> Pic {
-    if kind < KINDS {
-        return generate(kind, w, h, r);
-    }
-    let mut p = Pic::new(w, h, 255);
-    match kind - KINDS {
-        0 => {
-            let (step, size) = (r.range(32, 48), r.range(2, 8));
-            for y in (0..h as i64).step_by(step as usize) {
-                for x in (0..w as i64).step_by(step as usize) {
-                    p.rect(x, y, x + size, y + size, 0);
-                }
-            }
-        }
-        1 => {
-            let (a, b) = (r.range(0, 3) as u32, r.range(1, 3) as u32);
-            for y in 0..h {
-                for x in 0..w {
-                    p.set(x as i64, y as i64, (40 + (a * x + b * y) * 215 / (a * w + b * h)) as u8);
-                }
-            }
-            for _ in 0..r.range(1, 9) {
-                let (x, y) = (r.range(0, w as i64), r.range(0, h as i64));
-                p.rect(x, y, x + r.range(4, 90), y + r.range(4, 90), r.range(0, 60) as u8);
-            }
-        }
-        _ => {
-            let d = [0.0005, 0.002, 0.01, 0.03][r.below(4) as usize];
-            p.g.iter_mut().for_each(|q| if r.chance(d) { *q = 0 });
-        }
-    }
-    p
-}
-
-/// Both sides on pictures of any size up to `side`, through the door's C function: every place of every list.
-#[cfg(ours)]
-pub fn wide(seed: u64, seconds: f64, side: i64) {
-    let end = std::time::Instant::now() + std::time::Duration::from_secs_f64(seconds);
-    let (mut i, mut pixels, mut most_regions) = (0u64, 0u64, 0);
-    while std::time::Instant::now() < end {
-        let mut r = Rng(seed.wrapping_mul(0x1_0000_0001).wrapping_add(i));
-        let most = if r.chance(0.9) { side.min(400) } else { side };
-        let (w, h) = (r.range(1, most) as u32, r.range(1, most) as u32);
-        let kind = r.below(WIDE);
-        let p = wild(kind, w, h, &mut r);
-        let (wu, hu, spare) = (w as usize, h as usize, r.below(5) as usize);
-        let mut lent = Lent::new(wu, hu, spare);
-        let n = region_cells(wu, hu);
-        let want = outcome(&p.g, wu, hu, lent.grid.len(), lent.labels.len(), lent.stack.len());
-        let refused = lent.call(&p);
-        let stack = lent.stack[n..].iter().enumerate().all(|(k, &v)| v == lent32(n + k));
-        if refused != want.refused || lent.out != want.regions || lent.grid != want.grid || lent.labels != want.labels || !stack {
-            println!("picture differs: seed {seed} picture {i}, kind {kind}, {w} by {h}: answer {} regions {} levels {} labels {} stack {stack}",
-                refused == want.refused, lent.out == want.regions, lent.grid == want.grid, lent.labels == want.labels);
-            std::process::exit(1);
-        }
-        pixels += w as u64 * h as u64;
-        most_regions = most_regions.max(lent.out[0]);
-        i += 1;
-    }
-    println!("picture {i} pictures of sides up to {side}, {pixels} pixels, at most {most_regions} regions, from seed {seed}, 0 different");
-}
-
-#[cfg(not(ours))]
-pub fn wide(_: u64, _: f64, _: i64) {
-    eprintln!("this build has no finder linked: oracle/run builds one that has");
-}
-
-/// The pictures that are timed.
-#[cfg(ours)]
-fn timed(kind: &str, s: u32) -> Pic {
-    let mut r = Rng(s as u64);
-    match kind {
-        "ring" => crate::pic::draw_ring(10, (s / 67).min(16), 1, true, s, s),
-        "noise" => {
-            let mut p = Pic::new(s, s, 255);
-            p.g.iter_mut().for_each(|q| if r.chance(0.3) { *q = 0 });
-            p
-        }
-        "grey" => generate(1, s, s, &mut r),
-        "photo" => generate(13, s, s, &mut r),
-        "blobs" => {
-            let mut p = Pic::new(s, s, 255);
-            for _ in 0..(s as u64 * s as u64 / 8000) {
-                let (x, y) = (r.range(0, s as i64), r.range(0, s as i64));
-                p.rect(x, y, x + r.range(4, 40), y + r.range(4, 40), 0)
-            }
-            p
-        }
-        "disc" => {
-            let mut p = Pic::new(s, s, 255);
-            let c = s as f64 / 2.0;
-            p.disc(c, c, c * 0.9, c * 0.9, 0);
-            p
-        }
-        // one cell in each 32 by 32 pixels: as many regions as there can be
-        _ => {
-            let mut p = Pic::new(s, s, 255);
-            for y in (0..s as i64).step_by(32) {
-                for x in (0..s as i64).step_by(32) {
-                    p.rect(x, y, x + 8, y + 8, 0)
-                }
-            }
-            p
-        }
-    }
-}
-
-/// `InkMap::new` + `regions` against the door, best of several runs by turns: milliseconds and their ratio.
-#[cfg(ours)]
-pub fn bench() {
-    use std::hint::black_box;
-    use std::time::Instant;
-    println!("picture door: {:>5} {:<8} {:>9} {:>9} {:>6} {:>8}", "side", "picture", "Rust ms", "door ms", "ratio", "regions");
-    for s in [256u32, 1024, 4096] {
-        for kind in ["noise", "grey", "ring", "photo", "blobs", "disc", "dots"] {
-            let p = timed(kind, s);
-            let mut lent = Lent::new(s as usize, s as usize, 0);
-            let (mut a, mut b) = (f64::MAX, f64::MAX);
-            let runs = if s == 4096 { 5 } else { 20 };
-            for _ in 0..runs {
-                let t = Instant::now();
-                let ink = InkMap::new(black_box(&p.g), s, s);
-                black_box(ink.regions());
-                a = a.min(t.elapsed().as_secs_f64() * 1e3);
-                let t = Instant::now();
-                assert_eq!(lent.call(black_box(&p)), 0);
-                b = b.min(t.elapsed().as_secs_f64() * 1e3);
-            }
-            println!("picture door: {s:>5} {kind:<8} {a:>9.3} {b:>9.3} {:>6.2} {:>8}", b / a, lent.out[0]);
-        }
-    }
-}
-
-#[cfg(not(ours))]
-pub fn bench() {
-    eprintln!("this build has no finder linked: oracle/run builds one that has");
 }

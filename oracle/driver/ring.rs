@@ -1,12 +1,13 @@
 //! The search over versions and the ring door: `ring_transform`, `ring_lumas`, the loop of
 //! `correlate_quad`, `attempt`. Pictures are drawn, photographed and damaged rings, and others.
-use crate::calls::{Area, Call, packed, w32, w64};
+use crate::calls::{Area, Call, Words, packed, w32, w64};
 use crate::pic::*;
+use crate::smaller::{Layout, Unit};
 use lcr_core::version::Version;
 use lcr_decode::ring;
 use lcr_decode::transform::Transform;
 
-pub const AREA: Area = Area { name: "ring", stored, random };
+pub const AREA: Area = Area { name: "ring", stored, random, answer, layout };
 
 type P = (f32, f32);
 type Q = [P; 4];
@@ -28,15 +29,48 @@ fn eleven(t: &Transform) -> Vec<u32> {
     t.m.iter().chain(&t.radial).flat_map(|&x| w64(x)).collect()
 }
 
+fn layout(kind: u32) -> Layout {
+    match kind {
+        900 => Layout::heads(12),
+        901 => Layout::heads(26).grid(2, Unit::Byte, 1).sides(0, 1),
+        _ => Layout::heads(16).grid(2, Unit::Byte, 1).sides(0, 1),
+    }
+}
+
+fn quad_of(v: [f32; 8]) -> Q {
+    [(v[0], v[1]), (v[2], v[3]), (v[4], v[5]), (v[6], v[7])]
+}
+
+fn answer(kind: u32, args: &[u32]) -> Option<Vec<u32>> {
+    let mut w = Words(args);
+    if kind == 900 {
+        let (q, [x, y, k], [side]) = (quad_of(w.singles()?), w.singles()?, w.heads()?);
+        let found = ring::ring_transform(&q, side.try_into().ok()?, (x, y, k));
+        return w.ended(found.map_or(vec![0, 0], |t| [vec![0, 1], eleven(&t)].concat()));
+    }
+    let [width, height, n, v] = w.heads()?;
+    if !(1..=4096).contains(&width) || !(1..=4096).contains(&height) || n != width * height || !(1..=64).contains(&v) {
+        return None;
+    }
+    if kind == 901 {
+        let t = Transform { m: w.doubles(8)?.try_into().ok()?, radial: w.doubles(3)?.try_into().ok()? };
+        let list = ring::ring_lumas(&w.bytes(n as usize)?, width, height, &t, side_of(v as u8));
+        return w.ended([vec![0], bits(&list)].concat());
+    }
+    let (q, [x, y, k, outer]) = (quad_of(w.singles()?), w.singles()?);
+    if w32(outer) != w32(span(&q)) || args.len() < 26 {
+        return None;
+    }
+    let t = ring::correlate_quad(&w.bytes(n as usize)?, width, height, q, (x, y, k), 0, Version::new_unchecked(v as u8));
+    Some([vec![0], scores(&t.scores)].concat())
+}
+
 fn transform(q: &Q, l: Lens, side: u16) -> Call {
-    let want = ring::ring_transform(q, side, l).map_or(vec![0, 0], |t| [vec![0, 1], eleven(&t)].concat());
-    Call { kind: 900, args: [bits(&numbers(q)), bits(&[l.0, l.1, l.2]), vec![side as u32]].concat(), want }
+    AREA.call(900, [bits(&numbers(q)), bits(&[l.0, l.1, l.2]), vec![side as u32]].concat())
 }
 
 fn lumas(p: &Pic, t: &Transform, v: u8) -> Call {
-    let list = ring::ring_lumas(&p.g, p.w, p.h, t, side_of(v));
-    let args = [vec![p.w, p.h, p.g.len() as u32, v as u32], eleven(t), packed(&p.g)].concat();
-    Call { kind: 901, args, want: [vec![0], bits(&list)].concat() }
+    AREA.call(901, [vec![p.w, p.h, p.g.len() as u32, v as u32], eleven(t), packed(&p.g)].concat())
 }
 
 /// The outer side of a quad, as `correlate_quad` has it.
@@ -52,12 +86,11 @@ pub fn scores(s: &[(Version, f32, usize, bool)]) -> Vec<u32> {
 }
 
 fn search(p: &Pic, q: &Q, l: Lens, most: u8) -> Call {
-    let t = ring::correlate_quad(&p.g, p.w, p.h, *q, l, 0, Version::new_unchecked(most));
     let head = vec![p.w, p.h, p.g.len() as u32, most as u32];
     let args = [head, bits(&numbers(q)), bits(&[l.0, l.1, l.2, span(q)]), packed(&p.g)].concat();
     // the finder wants at least 26 words
     let pad = 26usize.saturating_sub(args.len());
-    Call { kind: 902, args: [args, vec![0; pad]].concat(), want: [vec![0], scores(&t.scores)].concat() }
+    AREA.call(902, [args, vec![0; pad]].concat())
 }
 
 /// A ring in a picture: its corners in pixels without the lens, position 0 first and clockwise unless it is mirrored.

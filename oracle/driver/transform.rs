@@ -1,10 +1,11 @@
 //! transform: `from_quad`, `with_radial`, `apply`.
-use crate::calls::{w32, w64, Area, Call};
+use crate::calls::{w32, w64, Area, Call, Words};
 use crate::ieee;
 use crate::pic::Rng;
+use crate::smaller::Layout;
 use lcr_decode::transform::Transform;
 
-pub const AREA: Area = Area { name: "transform", stored, random };
+pub const AREA: Area = Area { name: "transform", stored, random, answer, layout: |kind| Layout::heads([16, 24, 21][kind as usize % 100]) };
 
 fn longs(v: &[f64]) -> Vec<u32> {
     v.iter().flat_map(|&x| w64(x)).collect()
@@ -18,23 +19,35 @@ fn bits(q: &[f32]) -> Vec<u32> {
     q.iter().map(|x| x.to_bits()).collect()
 }
 
+fn answer(kind: u32, args: &[u32]) -> Option<Vec<u32>> {
+    let mut w = Words(args);
+    if kind == 401 {
+        let (m, radial, [u, v]) = (w.doubles(8)?, w.doubles(3)?, w.singles()?);
+        let (x, y) = Transform { m: m.try_into().ok()?, radial: radial.try_into().ok()? }.apply(u, v);
+        return w.ended(vec![0, w32(x), w32(y)]);
+    }
+    let found = Transform::from_quad(points(w.singles()?), points(w.singles()?));
+    if kind == 400 {
+        return w.ended(found.map_or(vec![0, 0], |t| [vec![0, 1], longs(&t.m)].concat()));
+    }
+    let ([cx, cy, kappa], [u, v]) = (w.singles()?, w.singles()?);
+    w.ended(found.map_or(vec![0, 0], |t| {
+        let t = t.with_radial(cx, cy, kappa);
+        let (x, y) = t.apply(u, v);
+        [vec![0, 1], longs(&t.m), longs(&t.radial), vec![w32(x), w32(y)]].concat()
+    }))
+}
+
 fn from_quad(src: [f32; 8], dst: [f32; 8]) -> Call {
-    let want = Transform::from_quad(points(src), points(dst)).map_or(vec![0, 0], |t| [vec![0, 1], longs(&t.m)].concat());
-    Call { kind: 400, args: [bits(&src), bits(&dst)].concat(), want }
+    AREA.call(400, [bits(&src), bits(&dst)].concat())
 }
 
 fn apply(m: [f64; 8], radial: [f64; 3], u: f32, v: f32) -> Call {
-    let (x, y) = Transform { m, radial }.apply(u, v);
-    Call { kind: 401, args: [longs(&m), longs(&radial), bits(&[u, v])].concat(), want: vec![0, w32(x), w32(y)] }
+    AREA.call(401, [longs(&m), longs(&radial), bits(&[u, v])].concat())
 }
 
 fn whole(src: [f32; 8], dst: [f32; 8], lens: [f32; 3], u: f32, v: f32) -> Call {
-    let want = Transform::from_quad(points(src), points(dst)).map_or(vec![0, 0], |t| {
-        let t = t.with_radial(lens[0], lens[1], lens[2]);
-        let (x, y) = t.apply(u, v);
-        [vec![0, 1], longs(&t.m), longs(&t.radial), vec![w32(x), w32(y)]].concat()
-    });
-    Call { kind: 402, args: [bits(&src), bits(&dst), bits(&lens), bits(&[u, v])].concat(), want }
+    AREA.call(402, [bits(&src), bits(&dst), bits(&lens), bits(&[u, v])].concat())
 }
 
 /// Four corners: a square moved and bent a little, collinear ones, equal ones, whole numbers, any f32.
