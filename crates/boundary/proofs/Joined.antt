@@ -1,6 +1,6 @@
--- Lists one after the other: joined-more, joined-add, joined-ext, joined-le. Assumes nothing.
+-- Lists one after the other: joined-more, joined-add, joined-ext, joined-none, joined-le. Assumes nothing.
 use mathlib.Core.Path.{_≡_, refl, sym, ap, _∙_}
-use mathlib.Core.List.{List, _++_, append-assoc, append-nil}
+use mathlib.Core.List.{List, [], _++_, append-assoc, append-nil}
 use Prim.Native.Nat.{ℕ, zero, suc, _+_, _*_, _≤_, _<_}
 use native.Mathlib.Nat.{add-zero, add-suc}
 use native.Mathlib.Numerals.{add-one}
@@ -27,6 +27,11 @@ joined-ext (suc n) f g same =
     let ih = joined-ext n f g (λ i l. same i (omega arith)) in
     let here = same n (omega arith) in
     cc
+
+pub joined-none : {A : Type 0} (n : ℕ) (f : ℕ → List A) → ((i : ℕ) → i < n → f i ≡ []) → joined n f ≡ []
+unfolding joined
+joined-none zero f e = refl
+joined-none (suc n) f e = rw (joined-none n f (λ i l. e i (omega arith)), e n (omega arith))
 
 pub joined-le : {A : Type 0} (k n : ℕ) (f : ℕ → List A) → ((i : ℕ) → length (f i) ≤ k) → length (joined n f) ≤ k * n
 unfolding joined

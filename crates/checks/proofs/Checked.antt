@@ -1,10 +1,12 @@
--- What the checks of a picture come to together with those that follow them: check-on where they pass, check-off where one refuses.
--- Assumes nothing.
+-- Checks in order, and those of a picture with those that follow them: check-on where they pass, check-off where one refuses; check-step:
+-- a check that passed, and those after it; side-in: what a side's check tells. Assumes nothing.
 use mathlib.Core.Bool.{Bool, false, true}
 use mathlib.Core.Path.{_≡_, refl}
-use Prim.Native.Nat.{ℕ, _*_}
+use Prim.Native.Nat.{ℕ, _*_, _≤_, _<_}
 use native.Mathlib.Omega.{arith}
-use lib.Dec.{eqb}
+use lib.Dec.{eqb, leb}
+use borrow.Author.Tests.{leb-true}
+use Rattle.laws.proofs.Bools.{and-left, and-right}
 use Rattle.laws.specs.Check.{orRefuse}
 use Rattle.checks.specs.Picture.{isSide, checkPicture}
 
@@ -30,3 +32,14 @@ check-off w h bytes rest off = go (isSide w) (isSide h) (eqb bytes (w * h)) off
     go true false c off = refl
     go true true false off = refl
     go true true true off = absurd (off refl)
+
+-- a check that passed, and the checks after it
+pub check-step : (b : Bool) (n rest : ℕ) → 0 < n → orRefuse b n rest ≡ 0 → (b ≡ true) × (rest ≡ 0)
+check-step true n rest l e = (refl, e)
+check-step false n rest l e = absurd (none n l e)
+  where
+    none : (n : ℕ) → 0 < n → n ≡ 0 → ⊥
+    none n l e = omega arith
+
+pub side-in : (n : ℕ) → isSide n ≡ true → (1 ≤ n) × (n ≤ 4096)
+side-in n e = (leb-true 1 n (and-left (leb 1 n) (leb n 4096) e), leb-true n 4096 (and-right (leb 1 n) (leb n 4096) e))

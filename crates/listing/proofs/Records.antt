@@ -10,7 +10,7 @@ use lib.Dec.{leb, eqb}
 use lib.ListN.{length, take, drop, length-take, length-drop}
 use borrow.Author.Tests.{leb-true, le-leb, lt-leb, eq-eqb, ne-eqb}
 use Rattle.laws.proofs.Bools.{and-left, and-right}
-use Rattle.outline.proofs.Doors.{check-step}
+use Rattle.checks.proofs.Checked.{check-step}
 use Rattle.listing.specs.Listing.{pairAt, fourAt, widthOf, heightOf, pixelsOf, isTraySide, checkPixels, checkRecord}
 use Rattle.listing.specs.Inner.{TrayPicture}
 

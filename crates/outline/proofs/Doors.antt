@@ -1,4 +1,4 @@
--- Laws of the outline door: side-in, part-in, fit-in; check-step; what an accepted call knows, Passed with passed; points-le; done-answer,
+-- Laws of the outline door: part-in, fit-in; what an accepted call knows, Passed with passed; points-le; done-answer,
 -- done-list, refused-answer, refused-list. Assumes nothing.
 use mathlib.Core.Path.{_≡_, refl, sym, ap, _∙_}
 use mathlib.Core.Bool.{Bool, true, false}
@@ -10,10 +10,10 @@ use lib.Dec.{leb, ltb, eqb}
 use lib.ListN.{length, length-append}
 use lib.Ieee.{Float}
 use borrow.Author.Tests.{ltb-true, leb-true, eqb-true}
-use Rattle.laws.specs.Check.{orRefuse}
 use Rattle.laws.specs.Move.{Box}
 use Rattle.laws.proofs.Bools.{and-left, and-right}
 use Rattle.checks.specs.Picture.{isSide}
+use Rattle.checks.proofs.Checked.{check-step, side-in}
 use Rattle.levels.specs.Level.{cells}
 use Rattle.regions.specs.Cells.{cells8}
 use Rattle.boundary.specs.Boundary.{rowsFrom, columnsFrom, boundary}
@@ -21,9 +21,6 @@ use Rattle.outline.specs.Door.{isPart, gridsFit, checkOutline, answered,
 use Rattle.outline.specs.Scan.{Grids, Wrote}
 use Rattle.outline.specs.declared.Answer.the-variants.{Points, Refused}
 use Rattle.outline.proofs.Writes.{rows-le, columns-le, wrote-next, wrote-laid}
-
-pub side-in : (n : ℕ) → isSide n ≡ true → (1 ≤ n) × (n ≤ 4096)
-side-in n e = (leb-true 1 n (and-left (leb 1 n) (leb n 4096) e), leb-true n 4096 (and-right (leb 1 n) (leb n 4096) e))
 
 pub part-in : (a e n : ℕ) → isPart a e n ≡ true → (a < e) × (e ≤ n)
 part-in a e n t = (ltb-true a e (and-left (ltb a e) (leb e n) t), leb-true e n (and-right (ltb a e) (leb e n) t))
@@ -46,14 +43,6 @@ pub record Passed (w h bytes x0 y0 x1 y1 levels labels room : ℕ) : Type 0 wher
   pub levelRoom : cells w * cells h ≤ levels
   pub regionRoom : cells8 w * cells8 h ≤ labels
   pub listRoom : 4 * (x1 - x0 + (y1 - y0)) ≤ room
-
--- a check that passed, and the checks after it
-pub check-step : (b : Bool) (n rest : ℕ) → 0 < n → orRefuse b n rest ≡ 0 → (b ≡ true) × (rest ≡ 0)
-check-step true n rest l e = (refl, e)
-check-step false n rest l e = absurd (none n l e)
-  where
-    none : (n : ℕ) → 0 < n → n ≡ 0 → ⊥
-    none n l e = omega arith
 
 pub passed : (w h bytes x0 y0 x1 y1 levels labels room : ℕ) → checkOutline w h bytes x0 y0 x1 y1 levels labels room ≡ 0
     → Passed w h bytes x0 y0 x1 y1 levels labels room

@@ -2,10 +2,10 @@
 -- the invariant Swept of a strip (swept-begin, swept-turn, swept-early, swept-most), lent parts (part-long, part-stepped), and the points
 -- found (column-none, column-is, columns-are, columns-none). Assumes nothing.
 use mathlib.Core.Path.{_≡_, refl, sym, ap, _∙_, subst}
-use mathlib.Core.Bool.{Bool, true, false, cond}
-use mathlib.Core.List.{List, [], _∷_, _++_, map, append-nil}
+use mathlib.Core.Bool.{Bool, true, false}
+use mathlib.Core.List.{List, [], _∷_}
 use mathlib.Core.Logic.{_⊎_, inl, inr, ⊎-elim}
-use Prim.Native.Nat.{ℕ, zero, suc, _+_, _-_, _*_, _/_, _≤_, _<_}
+use Prim.Native.Nat.{ℕ, suc, _+_, _-_, _*_, _/_, _≤_, _<_}
 use native.Mathlib.Nat.{eq-or-lt-of-le, not-suc-le-zero}
 use native.Mathlib.Omega.{arith}
 use lib.Dec.{ltb, leb, lit≤}
@@ -14,12 +14,12 @@ use lib.Seq.{getD-set-same, getD-set-other, getD-take, getD-drop}
 use borrow.Author.Tests.{le-leb, lt-leb, lt-ltb, le-ltb}
 use Rattle.laws.proofs.Bools.{le-or-lt}
 use Rattle.boundary.specs.Runs.{runStart, runEnd, edges}
-use Rattle.boundary.specs.Boundary.{memberAt, joined, down, columnPoints, columnsFrom}
+use Rattle.boundary.specs.Boundary.{memberAt, columnPoints, columnsFrom}
 use Rattle.outline.specs.Scan.{toward, columnLine, scanStep, scan, columnFound, columnsFound, cutOf, CutRow, partOf, Stepped, Swept}
 use Rattle.outline.specs.Scan.{AtMost}
 use Rattle.outline.proofs.Scans.{scan-begin, scan-more, scan-le, scan-stays, start-found, start-none, end-found}
 use Rattle.outline.proofs.Cuts.{member-cut}
-use Rattle.boundary.proofs.Joined.{joined-ext}
+use Rattle.boundary.proofs.Joined.{joined-ext, joined-none}
 
 -- ---- a run that is found stays found
 pub scan-early : (m : ℕ → Bool) (i n r : ℕ) → 4 ≤ r → r ≡ scan 4 m i → i ≤ n → r ≡ scan 4 m n
@@ -160,14 +160,9 @@ columns-are p y0 rows x n down up d u =
     joined-ext n (λ i. columnFound y0 rows (x + i) (getD down i 0) (getD up i 0)) (λ i. columnPoints 4 p y0 rows (x + i))
     (λ i l. column-is p y0 rows (x + i) (getD down i 0) (getD up i 0) (d .each i l) (u .each i l))
 
-nothing : {A : Type 0} (n : ℕ) (f : ℕ → List A) → ((i : ℕ) → i < n → f i ≡ []) → joined n f ≡ []
-unfolding joined
-nothing zero f e = refl
-nothing (suc n) f e = rw (nothing n f (λ i l. e i (omega arith)), e n (omega arith))
-
 pub columns-none : (p : ℕ → ℕ → Bool) (y0 rows x n : ℕ) (down : List ℕ) → Swept p y0 rows x n false rows down
     → ((i : ℕ) → i < n → getD down i 0 < 4) → [] ≡ columnsFrom 4 p y0 rows x n
 unfolding columnsFrom
 columns-none p y0 rows x n down d none =
-    sym (nothing n (λ i. columnPoints 4 p y0 rows (x + i))
+    sym (joined-none n (λ i. columnPoints 4 p y0 rows (x + i))
     (λ i l. column-none p y0 rows (x + i) (subst (λ (q : ℕ). q < 4) (d .each i l) (none i l))))

@@ -1,7 +1,7 @@
 -- The ring door's checks and its answer. Assumes nothing.
 --   good-begin, good-step, good-stop, good-end   the coordinates' test by one number more
 --   told-true, told-false                        a test by what a function answered, and its negation took
---   side-in, points-in, room-in, version-in      what a check that passes tells
+--   points-in, room-in, version-in               what a check that passes tells
 --   Passed, passed, passed-photo                 what an accepted call knows
 --   given-is, refused-is                         the answer of an accepted call, and of a refused one
 use mathlib.Core.Path.{_≡_, refl, sym, ap, _∙_}
@@ -14,10 +14,10 @@ use borrow.Author.Tests.{leb-true, eqb-true}
 use lib.Dec.{leb, eqb}
 use lib.ListN.{length, getD}
 use lib.Ieee.{Float, nan}
-use Rattle.laws.specs.Check.{orRefuse}
 use Rattle.laws.proofs.Bools.{and-left, and-right, not-true, not-false}
 use Rattle.laws.proofs.Steps.{one-less, none-left}
 use Rattle.checks.specs.Picture.{isSide}
+use Rattle.checks.proofs.Checked.{check-step, side-in}
 use Rattle.lcr_core.specs.Version.{isVersion}
 use Rattle.search.specs.Samples.{Photo}
 use Rattle.ring.specs.Checks.{isPoints, hasRoom, coordinateOf, coordinatesOn, coordinatesOf, checkRing}
@@ -57,9 +57,6 @@ told-true {r} e n = sym e ∙ not-false r n
 pub told-false : {r b : Bool} → r ≡ b → not r ≡ true → b ≡ false
 told-false {r} e n = sym e ∙ not-true r n
 
-pub side-in : (n : ℕ) → isSide n ≡ true → (1 ≤ n) × (n ≤ 4096)
-side-in n e = (leb-true 1 n (and-left (leb 1 n) (leb n 4096) e), leb-true n 4096 (and-right (leb 1 n) (leb n 4096) e))
-
 pub points-in : (n : ℕ) → isPoints n ≡ true → n ≤ 32768
 points-in n e = leb-true n 32768 (and-right (eqb (n % 2) 0) (leb n 32768) e)
 
@@ -83,24 +80,16 @@ pub record Passed (w h bytes n a b c most : ℕ) : Type 0 where
   pub room : (n ≤ a) × (n ≤ b) × (n ≤ c)
   pub version : most ≤ 64
 
--- a check that passed, and the checks after it
-step : (b : Bool) (n rest : ℕ) → 0 < n → orRefuse b n rest ≡ 0 → (b ≡ true) × (rest ≡ 0)
-step true n rest l e = (refl, e)
-step false n rest l e = absurd (none n l e)
-  where
-    none : (n : ℕ) → 0 < n → n ≡ 0 → ⊥
-    none n l e = omega arith
-
 pub passed : (w h bytes : ℕ) (s : List Float) (a b c most : ℕ) → checkRing w h bytes s a b c most ≡ 0
     → Passed w h bytes (length s) a b c most
 passed w h bytes s a b c most e =
-    let p = step (isSide w) 1 _ (lib.Dec.lit< tt) e in
-    let q = step (isSide h) 1 _ (lib.Dec.lit< tt) (p .1) in
-    let r = step (eqb bytes (w * h)) 2 _ (lib.Dec.lit< tt) (q .1) in
-    let t = step (isPoints (length s)) 6 _ (lib.Dec.lit< tt) (r .1) in
-    let u = step (hasRoom (length s) a b c) 3 _ (lib.Dec.lit< tt) (t .1) in
-    let x = step (coordinatesOf s) 7 _ (lib.Dec.lit< tt) (u .1) in
-    let y = step (isVersion most) 8 _ (lib.Dec.lit< tt) (x .1) in
+    let p = check-step (isSide w) 1 _ (lib.Dec.lit< tt) e in
+    let q = check-step (isSide h) 1 _ (lib.Dec.lit< tt) (p .1) in
+    let r = check-step (eqb bytes (w * h)) 2 _ (lib.Dec.lit< tt) (q .1) in
+    let t = check-step (isPoints (length s)) 6 _ (lib.Dec.lit< tt) (r .1) in
+    let u = check-step (hasRoom (length s) a b c) 3 _ (lib.Dec.lit< tt) (t .1) in
+    let x = check-step (coordinatesOf s) 7 _ (lib.Dec.lit< tt) (u .1) in
+    let y = check-step (isVersion most) 8 _ (lib.Dec.lit< tt) (x .1) in
     record {
       wide = side-in w (p .0);
       high = side-in h (q .0);
