@@ -1,10 +1,12 @@
 //! `bench-leaves`: times of numbers, marks, corners and the lens beside the Rust's, in one run. Each figure is the least of many
 //! rounds, the sides by turns, in nanoseconds a call, of the processor. A table in Markdown.
+use crate::finder::{Ring as Door, hull as hull_of};
 use crate::finder_leaves::*;
 use crate::looks::{Look, Ring, ring_of};
 use crate::marks::{lumas, positions, side};
 use crate::pic::Rng;
-use crate::timed::now;
+use crate::timed::{flat, now};
+use lcr_core::version::Version;
 use lcr_decode::transform::Transform;
 use lcr_decode::{math, ring};
 use std::hint::black_box;
@@ -146,6 +148,23 @@ fn fits(r: &mut Rng) {
     row("`estimate_lens`", 300, lens, |i| ours(2, i));
 }
 
+/// A square of 40 pixels, 160 points: the parts of an attempt on a small region, and all of it.
+fn small_region() {
+    let along = |k: usize| 128.5 + k as f32;
+    let points: Vec<(f32, f32)> = (0..40).flat_map(|k| [(128.0, along(k)), (168.0, along(k)), (along(k), 128.0), (along(k), 168.0)]).collect();
+    let (list, hull, centre) = (flat(&points), ring::convex_hull(&points), (128.0, 128.0));
+    let q = ring::quad(&hull).unwrap();
+    let (mut x, mut y, mut out) = (vec![0f32; 320], vec![0f32; 320], vec![0f32; 320]);
+    let numbers = [flat(&q), vec![centre.0, centre.1, 0.0]].concat();
+    row("hull, a square of 40 pixels", 50, |_| { black_box(ring::convex_hull(&points)); }, |_| { black_box(hull_of(&list, &mut out)).unwrap(); });
+    let mut ours = |which: usize| { black_box(corners(which, &list, &mut numbers.clone(), &mut x, &mut y)); };
+    row("`refine_quad`, the same", 50, |_| { black_box(ring::refine_quad(&points, q)); }, |_| ours(0));
+    row("`edge_quad`, the same", 50, |_| { black_box(ring::edge_quad(&points, q)); }, |_| ours(1));
+    row("`estimate_lens`, the same", 50, |_| { black_box(ring::estimate_lens(&points, Some(q), centre)); }, |_| ours(2));
+    let (gray, mut lent) = (vec![255u8; 65536], Door::of([320; 3]));
+    row("ring door, the same", 50, |_| { black_box(ring::attempt(&gray, 256, 256, &points, Version::MAX)); }, |_| { black_box(lent.call(&gray, 256, 256, &list, 64)); });
+}
+
 pub fn run() {
     println!("\nLeaves: nanoseconds a call, least of many rounds, the sides by turns.\n");
     println!("| what | Rust | ours | ratio |\n|---|---|---|---|");
@@ -156,4 +175,5 @@ pub fn run() {
     transforms(&mut r);
     rings_marks(&mut r);
     fits(&mut r);
+    small_region();
 }

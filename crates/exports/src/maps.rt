@@ -3,10 +3,15 @@
 // too short.
 ghost use Prim.Native.Nat.{_*_, _+_, _<_, _≤_};
 ghost use lib.ListN.{length};
+ghost use mathlib.Core.Path.{_≡_};
+ghost use Rattle.transform.specs.Mapping.{fromQuad, withRadial, applied};
+ghost use Rattle.exports.specs.Maps.{mapOf, elevenOf, mappedNumber, mappedLeft};
 use transform::Mapped;
 use transform::Transform;
 
-fn of_eleven(t: &[f64; 11]) -> Transform {
+fn of_eleven(t: &[f64; 11]) -> Transform
+    ensures { λ r. ⌜ r ≡ mapOf (now (t .entry)) ⌝ }
+{
     Transform {
         m0: t[0],
         m1: t[1],
@@ -22,7 +27,9 @@ fn of_eleven(t: &[f64; 11]) -> Transform {
     }
 }
 
-fn eleven(t: Transform) -> [f64; 11] {
+fn eleven(t: Transform) -> [f64; 11]
+    ensures { λ r. ⌜ r ≡ elevenOf t ⌝ }
+{
     [
         t.m0,
         t.m1,
@@ -38,15 +45,11 @@ fn eleven(t: Transform) -> [f64; 11] {
     ]
 }
 
-// The numbers of four corners.
-fn eight(s: &[f32; 8]) -> [f32; 8] {
-    [s[0], s[1], s[2], s[3], s[4], s[5], s[6], s[7]]
-}
-
-// The transform that takes four corners to four others, without a lens.
-#[no_mangle]
-pub extern "C" fn lcr_from_quad(src: &[f32; 8], dst: &[f32; 8], t: &mut [f64; 11]) -> u32 {
-    match transform::from_quad(eight(src), eight(dst)) {
+fn put_mapped(answer: Mapped, t: &mut [f64; 11]) -> u32
+    ensures { λ r. ⌜ r ≡ mappedNumber answer ⌝ }
+    ensures { λ _. ⌜ now (t .exit) ≡ mappedLeft answer (now (t .entry)) ⌝ }
+{
+    match answer {
         Mapped::Some(m) => {
             *t = eleven(m);
             0
@@ -55,9 +58,23 @@ pub extern "C" fn lcr_from_quad(src: &[f32; 8], dst: &[f32; 8], t: &mut [f64; 11
     }
 }
 
+// The transform that takes four corners to four others, without a lens.
+#[no_mangle]
+pub extern "C" fn lcr_from_quad(src: &[f32; 8], dst: &[f32; 8], t: &mut [f64; 11]) -> u32
+    ensures { λ r. ⌜ r ≡ mappedNumber (fromQuad (now (src .entry)) (now (dst .entry))) ⌝ }
+    ensures { λ _. ⌜
+        now (t .exit)
+        ≡ mappedLeft (fromQuad (now (src .entry)) (now (dst .entry))) (now (t .entry)) ⌝ }
+{
+    put_mapped(transform::from_quad(*src, *dst), t)
+}
+
 // The same coefficients with a lens about (cx, cy), in their place.
 #[no_mangle]
-pub extern "C" fn lcr_with_radial(t: &mut [f64; 11], cx: f32, cy: f32, kappa: f32) -> u32 {
+pub extern "C" fn lcr_with_radial(t: &mut [f64; 11], cx: f32, cy: f32, kappa: f32) -> u32
+    ensures { λ r. ⌜ r ≡ 0 ⌝ }
+    ensures { λ _. ⌜ now (t .exit) ≡ elevenOf (withRadial (mapOf (now (t .entry))) cx cy kappa) ⌝ }
+{
     let m = of_eleven(t);
     *t = eleven(m.with_radial(cx, cy, kappa));
     0
@@ -65,7 +82,11 @@ pub extern "C" fn lcr_with_radial(t: &mut [f64; 11], cx: f32, cy: f32, kappa: f3
 
 // The pixel of the place (u, v).
 #[no_mangle]
-pub extern "C" fn lcr_apply(t: &[f64; 11], u: f32, v: f32, x: &mut f32, y: &mut f32) -> u32 {
+pub extern "C" fn lcr_apply(t: &[f64; 11], u: f32, v: f32, x: &mut f32, y: &mut f32) -> u32
+    ensures { λ r. ⌜ r ≡ 0 ⌝ }
+    ensures { λ _. ⌜ now (x .exit) ≡ applied (mapOf (now (t .entry))) u v .x ⌝ }
+    ensures { λ _. ⌜ now (y .exit) ≡ applied (mapOf (now (t .entry))) u v .y ⌝ }
+{
     let m = of_eleven(t);
     let p = m.apply(u, v);
     *x = p.x;
