@@ -5,7 +5,7 @@
 #include <stdlib.h>
 #include <string.h>
 
-enum { W = 224, H = 176, VERSION = 2, POINTS = 2 * (W + H), GAP = 26, WIDE = W + GAP, HIGH = H + 62 };
+enum { W = 240, H = 176, VERSION = 2, POINTS = 2 * (W + H), GAP = 26, WIDE = W + GAP, HIGH = H + 62 };
 
 static uint8_t gray[W * H], levels[LCR_LEVEL_CELLS(W, H)];
 static uint32_t labels[LCR_REGION_CELLS(W, H)], stack[LCR_REGION_CELLS(W, H)], regions[LCR_REGIONS];
@@ -47,7 +47,7 @@ static size_t draw_cells(void) {
                 must(lcr_outer_cell(VERSION, p, &ox, &oy), "lcr_outer_cell");
                 if (ox == x && oy == y) must(lcr_sequence_light(VERSION, p, &light), "lcr_sequence_light");
             }
-            cells[y + 3][x + 3] = light ? 150 : 25;
+            cells[y + 3][x + 3] = light ? 130 : 25;
             if (depth == 1) cells[y + 3][x + 3] = 235;
         }
     return side;
@@ -57,16 +57,16 @@ static size_t draw_cells(void) {
 static void draw(void) {
     size_t side = draw_cells();
     float s = (float)side + 3, to[8] = {-3, -3, s, -3, s, s, -3, s};
-    float from[8] = {170, 28, 196, 136, 86, 152, 66, 44};
+    float from[8] = {200, 28, 226, 136, 116, 152, 96, 44};
     double t[11];
     must(lcr_from_quad(from, to, t), "lcr_from_quad");
     for (int y = 0; y < H; y++)
         for (int x = 0; x < W; x++) {
-            int v = 205 + x / 8;
+            int v = 190 + x / 6;
             float u, w;
             must(lcr_apply(t, (float)x + 0.5f, (float)y + 0.5f, &u, &w), "lcr_apply");
             if (u >= -3 && w >= -3 && u < s && w < s) v = cells[(int)(w + 3)][(int)(u + 3)];
-            if ((x - 30) * (x - 30) + (y - 120) * (y - 120) < 24 * 24) v = 60;
+            if ((x - 28) * (x - 28) + (y - 122) * (y - 122) < 22 * 22) v = 60;
             if (x > 12 && x < 48 && y > 18 && y < 62) v = 90;
             gray[y * W + x] = (uint8_t)(v + (int)below(9) - 4);
         }
@@ -79,12 +79,12 @@ static void find(void) {
     size_t hulls, tried;
     bool found;
     must(lcr_picture(gray, W * H, W, H, levels, sizeof levels, labels, LCR_REGION_CELLS(W, H), stack,
-                     LCR_REGION_CELLS(W, H), regions, LCR_REGIONS), "lcr_picture");
+                     LCR_REGION_CELLS(W, H), regions), "lcr_picture");
     must(lcr_outline(gray, W * H, levels, sizeof levels, labels, LCR_REGION_CELLS(W, H), r[0], W, H, r[2], r[3], r[4],
                      r[5], points, 2 * POINTS, &many), "lcr_outline");
     must(lcr_convex_hull(points, 2 * many, hull, 2 * POINTS, &vertices), "lcr_convex_hull");
     must(lcr_attempt(gray, W * H, W, H, points, 2 * many, LCR_VERSIONS, straight, 2 * POINTS, cand, 2 * POINTS, buf,
-                     2 * POINTS, &hulls, &found, quad, &tried, scores, LCR_SCORES, fix, fallback), "lcr_attempt");
+                     2 * POINTS, &hulls, &found, quad, &tried, scores, fix, fallback), "lcr_attempt");
     if (!found || fix[0] != VERSION) { fprintf(stderr, "way: no fix of version %d\n", VERSION); exit(1); }
 }
 
@@ -113,7 +113,7 @@ static void chunk(const char *name, const uint8_t *data, size_t n) {
     put32(~crc);
 }
 
-static void image(const uint8_t *pixels, unsigned w, unsigned h) {
+static void image(const char *id, const uint8_t *pixels, unsigned w, unsigned h) {
     static uint8_t raw[1 << 17];
     static const char digits[] = "ABCDEFGHIJKLMNOPQRSTUVWXYZabcdefghijklmnopqrstuvwxyz0123456789+/";
     uint8_t head[13] = {0, 0, 0, (uint8_t)w, 0, 0, 0, (uint8_t)h, 8, 0, 0, 0, 0};
@@ -134,8 +134,8 @@ static void image(const uint8_t *pixels, unsigned w, unsigned h) {
     chunk("IHDR", head, 13);
     chunk("IDAT", raw, n);
     chunk("IEND", raw, 0);
-    printf("<image width=\"%d\" height=\"%d\" preserveAspectRatio=\"none\" style=\"image-rendering:pixelated\" "
-           "href=\"data:image/png;base64,", W, H);
+    printf("<image id=\"%s\" width=\"%d\" height=\"%d\" preserveAspectRatio=\"none\" style=\"image-rendering:pixelated\" "
+           "href=\"data:image/png;base64,", id, W, H);
     for (size_t i = 0; i < size; i += 3) {
         uint32_t v = (uint32_t)file[i] << 16 | (uint32_t)(i + 1 < size ? file[i + 1] : 0) << 8 | (i + 2 < size ? file[i + 2] : 0);
         putchar(digits[v >> 18]);
@@ -157,8 +157,11 @@ static void panel(int k, const char *title, const char *below1, const char *belo
 
 static void frame(void) { printf("<rect width=\"%d\" height=\"%d\" class=\"f\"/>\n</g>\n", W, H); }
 
+/* The picture itself, which the file has once. */
+static void whole(void) { printf("<use href=\"#gray\"/>\n"); }
+
 static void faint(void) {
-    image(gray, W, H);
+    whole();
     printf("<rect width=\"%d\" height=\"%d\" fill=\"#fff\" opacity=\".62\"/>\n", W, H);
 }
 
@@ -169,22 +172,29 @@ static void polygon(const float *p, size_t n, const char *class) {
 }
 
 static void show_bytes(void) {
-    panel(0, "bytes", "a grey picture,", "224 by 176 pixels");
-    image(gray, W, H);
+    panel(0, "bytes", "a grey picture,", "240 by 176 pixels");
+    whole();
     frame();
 }
 
 static void show_levels(void) {
     panel(1, "level grid", "a threshold each 16 by 16 pixels,", "0 where contrast is low all round");
-    image(levels, (W + 15) / 16, (H + 15) / 16);
+    image("levels", levels, (W + 15) / 16, (H + 15) / 16);
     frame();
 }
 
+static bool ink(int x, int y) { return gray[y * W + x] < levels[y / 16 * ((W + 15) / 16) + x / 16]; }
+
 static void show_ink(void) {
-    static uint8_t ink[W * H];
     panel(2, "ink", "pixels below their", "cell's threshold");
-    for (int i = 0; i < W * H; i++) ink[i] = gray[i] < levels[i / W / 16 * ((W + 15) / 16) + i % W / 16] ? 0 : 255;
-    image(ink, W, H);
+    printf("<path d=\"");
+    for (int y = 0; y < H; y++)
+        for (int x = 0, from = 0; x <= W; x++) {
+            if (x < W && ink(x, y)) continue;
+            if (x > from) printf("M%d %dh%dv1H%dz", from, y, x - from, from);
+            from = x + 1;
+        }
+    printf("\"/>\n");
     frame();
 }
 
@@ -233,14 +243,18 @@ static void show_marks(void) {
     snprintf(line, sizeof line, "the lumas of %zu positions, split to", positions);
     panel(6, "marks", line, "light (open) and dark (filled)");
     faint();
+    static float lumas[LCR_VERSIONS * 16 + 88], xy[2 * (LCR_VERSIONS * 16 + 88)];
+    static bool light[LCR_VERSIONS * 16 + 88];
     for (size_t p = 0; p < positions; p++) {
         int32_t cx, cy;
-        float x, y;
+        float *at = xy + 2 * p;
         must(lcr_outer_cell(VERSION, p, &cx, &cy), "lcr_outer_cell");
-        must(lcr_apply(fix + 4, (float)cx + 0.5f, (float)cy + 0.5f, &x, &y), "lcr_apply");
-        size_t at = (size_t)y * W + (size_t)x;
-        printf("<circle cx=\"%.2f\" cy=\"%.2f\" r=\"1.5\" class=\"%s\"/>\n", x, y, gray[at] > 90 ? "o" : "d");
+        must(lcr_apply(fix + 4, (float)cx + 0.5f, (float)cy + 0.5f, at, at + 1), "lcr_apply");
+        lumas[p] = gray[(size_t)at[1] * W + (size_t)at[0]];
     }
+    must(lcr_classify(VERSION, lumas, positions, light, positions), "lcr_classify");
+    for (size_t p = 0; p < positions; p++)
+        printf("<circle cx=\"%.2f\" cy=\"%.2f\" r=\"1.5\" class=\"%s\"/>\n", xy[2 * p], xy[2 * p + 1], light[p] ? "o" : "d");
     frame();
 }
 
@@ -256,7 +270,7 @@ static void show_fix(void) {
     snprintf(line, sizeof line, "version %g, agreement %.3f,", fix[0], fix[1]);
     snprintf(more, sizeof more, "corner %g of the quad, %s", fix[2], fix[3] != 0 ? "mirrored" : "not mirrored");
     panel(7, "fix (ring door)", line, more);
-    image(gray, W, H);
+    whole();
     polygon(xy, 4, "q");
     printf("<circle cx=\"%g\" cy=\"%g\" r=\"5\" class=\"c\"/><path d=\"M%g %g L%g %g\" class=\"x\"/>\n", xy[0], xy[1], xy[0], xy[1],
            xy[0] + (xy[2] - xy[0]) * 0.4f, xy[1] + (xy[3] - xy[1]) * 0.4f);
@@ -271,7 +285,9 @@ int main(void) {
            ".f{fill:none;stroke:#888}.w{fill:none;stroke:#444;stroke-width:1.5}.q{fill:none;stroke:#06c;stroke-width:1.6}"
            ".h{fill:none;stroke:#c30;stroke-width:1}.n{font-size:12px;font-weight:bold;fill:#06c}.o{fill:#fff;stroke:#06c}"
            ".d{fill:#06c}.c{fill:none;stroke:#e60;stroke-width:2}.x{stroke:#e60;stroke-width:2}</style>\n");
-    printf("<rect width=\"100%%\" height=\"100%%\" fill=\"#fff\"/>\n");
+    printf("<rect width=\"100%%\" height=\"100%%\" fill=\"#fff\"/>\n<defs>\n");
+    image("gray", gray, W, H);
+    printf("</defs>\n");
     show_bytes();
     show_levels();
     show_ink();
