@@ -154,10 +154,14 @@ pub fn flat(p: &[(f32, f32)]) -> Vec<f32> {
 /// The picture door of both sides.
 pub fn picture_door(p: &Pic) -> (f64, f64) {
     let mut lent = Grids::fitting(p.w as usize, p.h as usize);
-    both(
+    let times = both(
         || { black_box(InkMap::new(black_box(&p.g), p.w, p.h).regions()); },
         || assert_eq!(lent.call(black_box(&p.g), p.w as usize, p.h as usize), 0),
-    )
+    );
+    let ink = InkMap::new(&p.g, p.w, p.h);
+    assert!(lent.levels == ink.threshold && lent.labels == ink.label, "the grids differ");
+    assert_eq!(lent.regions[0] as usize, ink.regions().1, "the regions differ");
+    times
 }
 
 /// The outline door of both sides on a label and a box.
@@ -210,12 +214,13 @@ pub fn whole_way(p: &Pic) -> (f64, f64) {
     let mut grids = Grids::fitting(w, h);
     let mut list = vec![0f32; room((0, 0, p.w, p.h))];
     let mut lent = Ring::of([list.len(); 3]);
-    both(
+    let mut want = None;
+    let times = both(
         || {
             let ink = InkMap::new(black_box(&p.g), p.w, p.h);
             if let Some(r) = ink.regions().0.first() {
                 let points = ring::boundary_points(&ink, Some(r.label), r.bbox);
-                black_box(ring::attempt(&p.g, p.w, p.h, &points, Version::MAX));
+                want = black_box(Some(ring::attempt(&p.g, p.w, p.h, &points, Version::MAX)));
             }
         },
         || {
@@ -227,5 +232,9 @@ pub fn whole_way(p: &Pic) -> (f64, f64) {
                 assert_eq!(lent.call(&p.g, w, h, &list[..2 * n], 64), 0);
             }
         },
-    )
+    );
+    if let Some(t) = want {
+        assert_eq!(lent.words(), crate::attempts::trace_words(&t), "the way's trace differs");
+    }
+    times
 }
