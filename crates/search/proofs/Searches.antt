@@ -2,11 +2,11 @@
 --   start-held, ended-held, scored-held        what holds of a search between steps
 --   skipped, scored                            a version without a transform, and one with
 --   step-ended, step-past, step-small, step-tried   the ways of a step
---   steps-step, steps-end                      one step more of a run, and its end
+--   steps-step, steps-stay, steps-end          one step more of a run, a run of an ended search, and its end
 use mathlib.Core.Path.{_≡_, refl, sym, ap, _∙_}
 use mathlib.Core.Bool.{Bool, true, false, cond}
 use mathlib.Core.List.{List}
-use Prim.Native.Nat.{ℕ, suc, _+_, _-_, _≤_, _<_}
+use Prim.Native.Nat.{ℕ, zero, suc, _+_, _-_, _≤_, _<_}
 use native.Mathlib.Omega.{arith}
 use lib.Dec.{ltb}
 use lib.Ieee.{Float}
@@ -99,6 +99,11 @@ module _ (gray : List ℕ) (w h : ℕ) where
         step-tried e = size-by false e
 
   -- ---- a run
+  pub steps-stay : (g : Goal) (d k : ℕ) (s : Search) → s .ended ≡ true → s ≡ stepsOn gray w h g d k s
+  unfolding stepsOn
+  steps-stay g zero k s e = refl
+  steps-stay g (suc d) k s e = steps-stay g d (k + 1) s e ∙ ap (stepsOn gray w h g d (k + 1)) (step-ended g s e)
+
   module _ (g : Goal) (n k : ℕ) (s z : Search) where
     pub steps-step : (s′ : Search) → k < n → s′ ≡ stepOf gray w h g s → stepsOn gray w h g (n - k) k s ≡ z
         → stepsOn gray w h g (n - (k + 1)) (k + 1) s′ ≡ z

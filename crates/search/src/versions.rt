@@ -215,7 +215,7 @@ pub fn step(gray: &[u8], w: usize, h: usize, g: Goal, s: Search) -> Search
     tried(gray, w, h, g, s)
 }
 
-// The search run to its end: 65 steps are enough for 64 versions.
+// The search run to its end: 65 steps are enough for 64 versions, and one that has ended stays.
 pub fn run(gray: &[u8], w: usize, h: usize, g: Goal) -> Search
     requires { ⌜ Photo (now gray) w h ⌝ }
     requires { ⌜ g .most ≤ 64 ⌝ }
@@ -225,6 +225,9 @@ pub fn run(gray: &[u8], w: usize, h: usize, g: Goal) -> Search
     let mut s = start();
     let mut k = 0usize;
     while k < 65 {
+        if s.ended {
+            return s;
+        }
         s = step(gray, w, h, g, s);
         k += 1;
     }

@@ -1,9 +1,9 @@
--- `search::versions::run` makes 65 steps. Invariant: the steps left from here give the whole search, and there is room for the next score.
+-- `search::versions::run` makes 65 steps, or fewer where the search has ended. Invariant: the steps left from here give the whole search, and there is room for the next score.
 -- Measure: the steps left. Assumes nothing.
 use Prim.Native.Nat.{_-_}
-use mathlib.Core.Path.{_≡_, sym, ap, subst}
+use mathlib.Core.Path.{_≡_, _∙_, sym, ap, subst}
 use borrow.Author.Needs.{needs}
-use Rattle.search.proofs.Searches.{start-held, steps-step, steps-end}
+use Rattle.search.proofs.Searches.{start-held, steps-step, steps-stay, steps-end}
 use Rattle.search.specs.Versions.{Held, stepsOn, searchOf}
 use Rattle.search.proofs.versions.run.Statement.{statement}
 use Rattle.search.proofs.versions.run.Tie as tie
@@ -22,8 +22,16 @@ loop-holds c =
     let a = c .before .before .args in
     (subst Held (sym (c .start .ensures)) start-held, ap (stepsOn (a .gray .now) (a .w) (a .h) (a .g) 65 0) (c .start .ensures))
 
+returns : tie.Need-returns Inv-loop μ-loop
+returns c =
+    let a = c .before .before .before .before .before .args in
+    let at = c .before .before .loop in
+    (steps-stay (a .gray .now) (a .w) (a .h) (a .g) (65 - at .k) (at .k) _ (c .if1 .taken) ∙ at .inv .1, at .inv .0)
+
 step-requires : tie.Need-step-requires Inv-loop μ-loop
-step-requires c κs = (c .before .before .before .before .pre .0, (c .before .loop .inv .0, c .before .before .before .before .pre .1))
+step-requires c κs =
+    let p = c .before .before .before .before .before .pre in
+    (p .0, (c .before .before .loop .inv .0, p .1))
 
 add-k : tie.Need-add-k Inv-loop μ-loop
 add-k c = search needs
@@ -33,14 +41,14 @@ loop-less c = search needs
 
 loop-again : tie.Need-loop-again Inv-loop μ-loop
 loop-again c =
-    let a = c .before .before .before .before .before .args in (
+    let a = c .before .before .before .before .before .before .args in (
       c .step .ensures .1,
-      steps-step (a .gray .now) (a .w) (a .h) (a .g) 65 _ _ _ _ (c .before .loop-test .taken) (c .step .ensures .0)
-          (c .before .before .loop .inv .1),
+      steps-step (a .gray .now) (a .w) (a .h) (a .g) 65 _ _ _ _ (c .before .before .loop-test .taken) (c .step .ensures .0)
+          (c .before .before .before .loop .inv .1),
     )
 
-returns : tie.Need-returns Inv-loop μ-loop
-returns c =
+returns-2 : tie.Need-returns-2 Inv-loop μ-loop
+returns-2 c =
     let a = c .before .before .before .before .args in
     (steps-end (a .gray .now) (a .w) (a .h) (a .g) 65 _ _ _ (c .loop-test .left) (c .before .loop .inv .1), c .before .loop .inv .0)
 
@@ -52,8 +60,9 @@ run-spec =
     μ-loop
     start-requires
     loop-holds
+    returns
     step-requires
     add-k
     loop-less
     loop-again
-    returns)
+    returns-2)
