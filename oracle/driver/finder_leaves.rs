@@ -1,5 +1,6 @@
 //! The finder's C functions of the leaves, behind safe ones; the words that each answers, as the call by number has them.
 use crate::calls::{Words, packed, singles, w32, w64};
+use crate::marks::bits;
 
 #[rustfmt::skip]
 unsafe extern "C" {
@@ -88,10 +89,6 @@ pub fn corners(which: usize, p: &[f32], q: &mut [f32], x: &mut [f32], y: &mut [f
             _ => lcr_estimate_lens(p.as_ptr(), p.len(), q, m, a, k, b, l),
         }
     }
-}
-
-fn bits(marks: &[bool]) -> Vec<u32> {
-    marks.chunks(32).map(|c| c.iter().enumerate().map(|(k, &b)| (b as u32) << k).sum()).collect()
 }
 
 fn solution(x: Result<[f64; 8], u32>) -> Vec<u32> {

@@ -19,7 +19,7 @@ fn known(v: u32) -> bool {
     (1..=64).contains(&v)
 }
 
-fn bits(marks: &[bool]) -> Vec<u32> {
+pub fn bits(marks: &[bool]) -> Vec<u32> {
     marks.chunks(32).map(|c| c.iter().enumerate().map(|(k, &b)| (b as u32) << k).sum()).collect()
 }
 

@@ -7,7 +7,7 @@ use lcr_decode::math;
 
 pub const AREA: Area = Area { name: "math", stored, random, answer, layout };
 
-fn longs(v: &[f64]) -> Vec<u32> {
+pub fn longs(v: &[f64]) -> Vec<u32> {
     v.iter().flat_map(|&x| w64(x)).collect()
 }
 

@@ -1,15 +1,12 @@
 //! transform: `from_quad`, `with_radial`, `apply`.
-use crate::calls::{w32, w64, Area, Call, Words};
+use crate::calls::{Area, Call, Words, w32};
 use crate::ieee;
+use crate::math::longs;
 use crate::pic::Rng;
 use crate::smaller::Layout;
 use lcr_decode::transform::Transform;
 
 pub const AREA: Area = Area { name: "transform", stored, random, answer, layout: |kind| Layout::heads([16, 24, 21][kind as usize % 100]) };
-
-fn longs(v: &[f64]) -> Vec<u32> {
-    v.iter().flat_map(|&x| w64(x)).collect()
-}
 
 fn points(q: [f32; 8]) -> [(f32, f32); 4] {
     [0, 1, 2, 3].map(|i| (q[2 * i], q[2 * i + 1]))
