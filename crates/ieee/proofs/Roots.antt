@@ -273,15 +273,16 @@ root-pattern b n k r p h g lo hi small e =
     room k q a b = omega arith
 
 -- ---- the steps of the code
-pub start : (b m p : ℕ) → m ≡ mant b → p ≡ expo b + 149 → m * (1 + p % 2) * 1048576 * 2 ^ (2 * (p / 2 - 10)) ≡ square b
+pub start : (b m p : ℕ) → m ≡ mant b → p ≡ expo b + 149
+    → m * (1 + (p + 1) % 2) * 8388608 * 2 ^ (2 * ((p + 1) / 2 - 12)) ≡ square b
 start b m p em ep =
-    let h = p / 2 in
-    let r = p % 2 in
-    ap (λ (z : ℕ). m * z * 1048576 * 2 ^ (2 * (h - 10))) (parity r (less p))
-    ∙ mul-assoc (m * 2 ^ r) 1048576 (2 ^ (2 * (h - 10)))
-    ∙ ap (λ (z : ℕ). m * 2 ^ r * z) (sym (pow-add 2 20 (2 * (h - 10))) ∙ ap (λ (z : ℕ). 2 ^ z) (whole h (big p ep)))
-    ∙ mul-assoc m (2 ^ r) (2 ^ (2 * h))
-    ∙ ap (λ (z : ℕ). m * z) (sym (pow-add 2 r (2 * h)) ∙ ap (λ (z : ℕ). 2 ^ z) (again p ∙ ep) ∙ pow-add 2 (expo b) 149)
+    let h = (p + 1) / 2 in
+    let r = (p + 1) % 2 in
+    ap (λ (z : ℕ). m * z * 8388608 * 2 ^ (2 * (h - 12))) (parity r (less (p + 1)))
+    ∙ mul-assoc (m * 2 ^ r) 8388608 (2 ^ (2 * (h - 12)))
+    ∙ ap (λ (z : ℕ). m * 2 ^ r * z) (sym (pow-add 2 23 (2 * (h - 12))) ∙ ap (λ (z : ℕ). 2 ^ z) (whole h (big p ep)))
+    ∙ mul-assoc m (2 ^ r) (2 ^ (2 * h - 1))
+    ∙ ap (λ (z : ℕ). m * z) (sym (pow-add 2 r (2 * h - 1)) ∙ ap (λ (z : ℕ). 2 ^ z) (again p (big p ep) ∙ ep) ∙ pow-add 2 (expo b) 149)
     ∙ ap (λ (z : ℕ). z * (2 ^ expo b * 2 ^ 149)) em
     ∙ sym (mul-assoc (mant b) (2 ^ expo b) (2 ^ 149))
   where
@@ -296,14 +297,14 @@ start b m p em ep =
         no : (r : ℕ) → suc (suc r) < 2 → ⊥
         no r h = omega arith
 
-    big : (p : ℕ) → p ≡ expo b + 149 → 10 ≤ p / 2
+    big : (p : ℕ) → p ≡ expo b + 149 → 12 ≤ (p + 1) / 2
     big p h = omega arith
 
-    whole : (h : ℕ) → 10 ≤ h → 20 + 2 * (h - 10) ≡ 2 * h
+    whole : (h : ℕ) → 12 ≤ h → 23 + 2 * (h - 12) ≡ 2 * h - 1
     whole h g = omega arith
 
-    again : (p : ℕ) → p % 2 + 2 * (p / 2) ≡ p
-    again p = omega arith
+    again : (p : ℕ) → 12 ≤ (p + 1) / 2 → (p + 1) % 2 + (2 * ((p + 1) / 2) - 1) ≡ p
+    again p g = omega arith
 
 pub square-big : (b : ℕ) → 0 < b → b < 2139095040 → 70368744177664 ≤ square b
 square-big b p h = le-trans (lit≤ tt) (mul-le-mul-right (2 ^ 149) (mul-pos (mant-pos b p h) (pow-pos (expo b))))

@@ -88,10 +88,10 @@ pub fn root_bits(b: u32) -> u32
 {
     // the value is m * 2^p / 2^298, so its root is that of m * 2^p, in smallest values
     let m = digits(b);
-    let p = place(b);
-    // m * 2^p is n * 4^k
-    let mut n = m * ((1 + p % 2) as u64) * 0x10_0000;
-    let mut k = p / 2 - 10;
+    let q = place(b) + 1;
+    // m * 2^p is n * 4^k, q is p + 1; n is large enough but for the smallest values
+    let mut n = m * ((1 + q % 2) as u64) * 0x80_0000;
+    let mut k = q / 2 - 12;
     while n < 0x4000_0000_0000 {
         n = n * 4;
         k = k - 1;

@@ -19,7 +19,7 @@ twofold m p h = mul-le-mul h (two p)
     two : (p : ℕ) → 1 + p % 2 ≤ 2
     two p = omega arith
 
-small : (m p : ℕ) → m ≤ 16777215 → m * (1 + p % 2) * 1048576 < 281474976710656
+small : (m p : ℕ) → m ≤ 16777215 → m * (1 + p % 2) * 8388608 < 281474976710656
 small m p h = let z = twofold m p h in omega arith
 
 grow : (b n k : ℕ) → 0 < b → b < 2139095040 → Grown b n k → n < 70368744177664 → Grown b (n * 4) (k - 1) × (0 < k)
@@ -28,10 +28,10 @@ grow b n k p h inv l =
     ((fourfold n k z ∙ inv .0, omega arith, omega arith), z)
 
 abbrev Inv-loop : tie.InvT-loop
-Inv-loop b m p n₀ k₀ n k = Grown b n k
+Inv-loop b m q n₀ k₀ n k = Grown b n k
 
 abbrev μ-loop : tie.MeasureT-loop
-μ-loop b m p n₀ k₀ n k = k
+μ-loop b m q n₀ k₀ n k = k
 
 grows : (c : tie.In-loop Inv-loop μ-loop)
     → Grown (c .before .before .before .before .args .b) (c .before .loop .n * 4) (c .before .loop .k - 1) × (0 < c .before .loop .k)
@@ -47,6 +47,9 @@ digits-requires c κs = omega arith
 place-requires : tie.Need-place-requires Inv-loop μ-loop
 place-requires c κs = omega arith
 
+add-q : tie.Need-add-q Inv-loop μ-loop
+add-q c = omega arith
+
 add-n : tie.Need-add-n Inv-loop μ-loop
 add-n c = search needs
 
@@ -57,7 +60,7 @@ mul-n : tie.Need-mul-n Inv-loop μ-loop
 mul-n c = fits-le (twofold _ _ (omega arith)) (fits-lit tt)
 
 mul-n-2 : tie.Need-mul-n-2 Inv-loop μ-loop
-mul-n-2 c = fits-le (mul-le-mul-right 1048576 (twofold _ _ (omega arith))) (fits-lit tt)
+mul-n-2 c = fits-le (mul-le-mul-right 8388608 (twofold _ _ (omega arith))) (fits-lit tt)
 
 sub-k : tie.Need-sub-k Inv-loop μ-loop
 sub-k c = search needs
@@ -103,6 +106,7 @@ root-bits-spec =
     μ-loop
     digits-requires
     place-requires
+    add-q
     add-n
     cast-n
     mul-n

@@ -1,5 +1,5 @@
--- `search::versions::run` makes 65 steps, or fewer where the search has ended. Invariant: the steps left from here give the whole search, and there is room for the next score.
--- Measure: the steps left. Assumes nothing.
+-- `search::versions::run` makes 65 steps, or fewer where the search has ended. Invariant: the steps left from here give the whole search,
+-- and there is room for the next score. Measure: the steps left. Assumes nothing.
 use Prim.Native.Nat.{_-_}
 use mathlib.Core.Path.{_≡_, _∙_, sym, ap, subst}
 use borrow.Author.Needs.{needs}
