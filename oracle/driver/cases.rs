@@ -1,6 +1,6 @@
 //! Cases of the ring door: pictures with points, of many kinds, and what the door refuses.
 use crate::att::Case;
-use crate::looks::{Look, P, ring_of};
+use crate::looks::{Look, P, bent, ring_of, rough_edges};
 use crate::pic::*;
 use crate::ring as door;
 use lcr_decode::ring::{self, InkMap};
@@ -104,24 +104,13 @@ fn on_row(r: &mut Rng) -> Case {
     let w = 60 + 2 * r.below(20) as u32;
     let (cx, cy) = (w as f64 / 2.0, 30.0);
     let k = (r.unit() - 0.5) * 2e-5;
-    let (h, n) = (side / 2.0, side as usize);
+    let h = side / 2.0;
     let down = 0.25 + r.unit();
     let cut = down * (0.8 + 0.6 * r.unit());
     let mut raw = vec![(-h, down), (h, down), (-h + cut, 0.0), (h - cut, 0.0), (h, side), (-h, side)];
-    for i in 2..n - 2 {
-        let t = i as f64 + 0.5;
-        let mut rough = || 0.25 * r.below(2) as f64;
-        raw.push((t - h, rough()));
-        raw.push((t - h, side - rough()));
-        raw.push((-h + rough(), t));
-        raw.push((h - rough(), t));
-    }
+    rough_edges(r, side, 2, 0.25, &mut raw);
     // a point of the middle row stays on it
-    let bent = |p: &(f64, f64)| {
-        let f = 1.0 - k * (p.0 * p.0 + p.1 * p.1);
-        ((cx + p.0 * f) as f32, (cy + p.1 * f) as f32)
-    };
-    let points: Vec<P> = raw.iter().map(bent).collect();
+    let points = bent(&raw, (cx, cy), k);
     case(Pic::new(w, 60, 90), &points, 2)
 }
 

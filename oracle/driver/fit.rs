@@ -1,6 +1,6 @@
 //! fit and lens: lines, crossings, corners, bows, the lens and straightened points.
 use crate::calls::{Area, Call, Words, w32};
-use crate::looks::{Look, P, Q, drawn, list, ring_of, tame, wild};
+use crate::looks::{Look, P, Q, bent, drawn, list, ring_of, rough_edges, tame, wild};
 use crate::pic::Rng;
 use crate::smaller::{Layout, Unit};
 use lcr_decode::ring;
@@ -134,22 +134,11 @@ fn late_nan(r: &mut Rng) -> Call {
     let (cx, cy) = (100.0, 100.0);
     let side = 60.0 + 2.0 * r.below(30) as f64;
     let k = (r.unit() - 0.5) * 4e-6;
-    let (h, n) = (side / 2.0, side as usize);
+    let h = side / 2.0;
     let mut raw = vec![(-h, 0.0), (h, 0.0), (h, side), (-h, side)];
-    for i in 0..n {
-        let t = i as f64 + 0.5;
-        let mut rough = || 0.5 * r.below(2) as f64;
-        raw.push((t - h, rough()));
-        raw.push((t - h, side - rough()));
-        raw.push((-h + rough(), t));
-        raw.push((h - rough(), t));
-    }
+    rough_edges(r, side, 0, 0.5, &mut raw);
     // a point of the centre's row stays on it
-    let bent = |p: &(f64, f64)| {
-        let f = 1.0 - k * (p.0 * p.0 + p.1 * p.1);
-        ((cx + p.0 * f) as f32, (cy + p.1 * f) as f32)
-    };
-    let points: Vec<P> = raw.iter().map(bent).collect();
+    let points = bent(&raw, (cx, cy), k);
     let lower = |p: P| if p.1 < 101.0 { (p.0, p.1 + 0.75) } else { p };
     let q = [points[0], points[1], points[2], points[3]].map(lower);
     lens(&points, Some(q), (cx as f32, cy as f32))

@@ -145,3 +145,26 @@ pub fn list(r: &mut Rng, n: u64) -> Vec<P> {
         })
         .collect()
 }
+
+/// Points along the four edges of a square that hangs from the middle of its upper edge, `from` pixels from its
+/// corners on, each on its edge or a step within.
+pub fn rough_edges(r: &mut Rng, side: f64, from: usize, step: f64, raw: &mut Vec<(f64, f64)>) {
+    let (h, n) = (side / 2.0, side as usize);
+    for i in from..n - from {
+        let t = i as f64 + 0.5;
+        let mut rough = || step * r.below(2) as f64;
+        raw.push((t - h, rough()));
+        raw.push((t - h, side - rough()));
+        raw.push((-h + rough(), t));
+        raw.push((h - rough(), t));
+    }
+}
+
+/// Points about a centre, bent by a lens.
+pub fn bent(raw: &[(f64, f64)], (cx, cy): (f64, f64), k: f64) -> Vec<P> {
+    let one = |p: &(f64, f64)| {
+        let f = 1.0 - k * (p.0 * p.0 + p.1 * p.1);
+        ((cx + p.0 * f) as f32, (cy + p.1 * f) as f32)
+    };
+    raw.iter().map(one).collect()
+}

@@ -1,6 +1,7 @@
 //! The search over versions and the ring door: `ring_transform`, `ring_lumas`, the loop of
 //! `correlate_quad`, `attempt`. Pictures are drawn, photographed and damaged rings, and others.
 use crate::calls::{Area, Call, Words, packed, w32, w64};
+use crate::looks::{P, Q, wild};
 use crate::pic::*;
 use crate::smaller::{Layout, Unit};
 use lcr_core::version::Version;
@@ -9,8 +10,6 @@ use lcr_decode::transform::Transform;
 
 pub const AREA: Area = Area { name: "ring", stored, random, answer, layout };
 
-type P = (f32, f32);
-type Q = [P; 4];
 type Lens = (f32, f32, f32);
 
 fn side_of(v: u8) -> u16 {
@@ -159,20 +158,6 @@ pub fn damaged(s: &mut Scene, r: &mut Rng) {
         } else {
             s.pic.rect((x - k) as i64, (y - k) as i64, (x + k) as i64, (y + k) as i64, v);
         }
-    }
-}
-
-fn wild(r: &mut Rng) -> f32 {
-    match r.below(10) {
-        0 => f32::NAN,
-        1 => f32::INFINITY,
-        2 => f32::NEG_INFINITY,
-        3 => -0.0,
-        4 => 0.0,
-        5 => f32::from_bits(r.next() as u32),
-        6 => 1e30 * (r.unit() as f32 - 0.5),
-        7 => 1e-40 * (r.unit() as f32 - 0.5),
-        _ => (r.unit() as f32 - 0.5) * 300.0,
     }
 }
 
