@@ -178,12 +178,13 @@ def main():
         '[workspace]\nresolver = "3"\nmembers = ["lcr-core", "lcr-decode", "oracle"]\n\n'
         '[profile.release]\nopt-level = 3\ndebug = false\noverflow-checks = true\n\n'
         '# the published profile: no overflow checks; used for timings\n[profile.fast]\ninherits = "release"\noverflow-checks = false\n')
-    # the finder's static library is linked where LCR_LIB names its folder
+    # the finder's static libraries are linked where LCR_LIB names their folder
     write(os.path.join(out, "oracle/build.rs"),
         'fn main() {\n    println!("cargo::rustc-check-cfg=cfg(ours)");\n    println!("cargo::rerun-if-env-changed=LCR_LIB");\n'
         '    if let Ok(dir) = std::env::var("LCR_LIB") {\n        println!("cargo::rustc-cfg=ours");\n'
-        '        println!("cargo::rustc-link-search=native={dir}");\n        println!("cargo::rustc-link-lib=static=exports");\n'
-        '        println!("cargo::rerun-if-changed={dir}/libexports.a");\n    }\n}\n')
+        '        println!("cargo::rustc-link-search=native={dir}");\n        for name in ["exports", "inner_exports"] {\n'
+        '            println!("cargo::rustc-link-lib=static={name}");\n'
+        '            println!("cargo::rerun-if-changed={dir}/lib{name}.a");\n        }\n    }\n}\n')
     if os.path.isdir(driver):
         for f in sorted(os.listdir(driver)):
             if f.endswith(".rs"):

@@ -16,8 +16,6 @@
 
 #include "lcr_ring.h"
 
-size_t lcr_call(uint32_t kind, const uint32_t *args, size_t n, uint32_t *out, size_t m);
-
 static uint64_t state;
 static uint64_t next(void) {
     uint64_t z = (state += 0x9E3779B97F4A7C15u);
@@ -437,11 +435,11 @@ static int check(int k, char **files) {
 }
 
 /* ---- marks */
-static void counts(int v, const uint8_t *marks, uint32_t *out) {
-    int n = 16 * v + 88;
-    uint32_t args[2 + 36] = {(uint32_t)v, (uint32_t)n};
-    for (int p = 0; p < n; p++) args[2 + p / 32] |= (uint32_t)marks[p] << p % 32;
-    if (lcr_call(702, args, 2 + (size_t)(n + 31) / 32, out, 12) != 12 || out[0]) {
+static void counts(int v, const bool *marks, uint16_t out[8]) {
+    float score;
+    size_t corner;
+    bool reversed;
+    if (lcr_correlate((uint8_t)v, marks, (size_t)(16 * v + 88), &score, &corner, &reversed, out)) {
         fprintf(stderr, "moves: correlate refused\n");
         exit(2);
     }
@@ -450,9 +448,9 @@ static int marks(long n) {
     long done = 0;
     for (long i = 0; i < n; i++) {
         int v = 1 + below(64), all = 16 * v + 88, q = all / 4;
-        uint8_t old[1112], new[1112];
-        uint32_t a[12], b[12];
-        for (int p = 0; p < all; p++) old[p] = (uint8_t)below(2);
+        bool old[1112], new[1112];
+        uint16_t a[8], b[8];
+        for (int p = 0; p < all; p++) old[p] = below(2) != 0;
         counts(v, old, a);
         for (int back = 0; back < 2; back++)
             for (int k = 0; k < 4; k++) {
@@ -461,7 +459,7 @@ static int marks(long n) {
                 for (int r = 0; r < 4; r++)
                     for (int reversed = 0; reversed < 2; reversed++) {
                         int to = ((back ? 4 - r : r) + k) % 4, is = reversed ^ back;
-                        if (a[4 + 4 * reversed + r] != b[4 + 4 * is + to]) {
+                        if (a[4 * reversed + r] != b[4 * is + to]) {
                             printf("counts differ: version %d, list %ld\n", v, i);
                             return 1;
                         }

@@ -13,7 +13,7 @@ use Rattle.hull.specs.declared.points.Corners.the-variants.{Found, NoQuad}
 use Rattle.hull.specs.Quad.{valuesOf}
 use Rattle.regions.specs.declared.answer.Kept.{Kept}
 use Rattle.regions.specs.Door.{answerBy}
-use Rattle.exports.specs.Answers.{leftAs, eightOf}
+use Rattle.pictures_out.specs.Answers.{leftAs, eightOf}
 
 pub left-refused : {A : Type 0} (n : ℕ) (new old : A) → (n ≡ 0 → ⊥) → leftAs n new old ≡ old
 left-refused zero new old off = absurd (off refl)

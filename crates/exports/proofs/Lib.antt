@@ -1,4 +1,5 @@
 -- Laws of the crate.
+pub mod Attempts
 pub mod Leaves
 pub mod MarkLaws
 pub mod Signed

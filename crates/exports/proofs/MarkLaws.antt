@@ -9,7 +9,7 @@ use Rattle.marks.specs.Pose.{countsOf}
 use Rattle.marks.specs.Doors.{countsBeside}
 use Rattle.marks.specs.declared.correlate.Best.{Best}
 use Rattle.marks.specs.declared.correlate.Best.the-variants as best
-use Rattle.exports.specs.Marks.{countsLeft}
+use Rattle.border_out.specs.Poses.{countsLeft}
 
 pub counts-beside : (b : Best) (v : ℕ) (s : List Bool) (old : List ℕ)
     → countsLeft b (countsBeside b v s) old ≡ countsLeft b (countsOf v s) old

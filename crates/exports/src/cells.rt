@@ -9,7 +9,7 @@ ghost use Rattle.lcr_core.specs.Doors.{
   markAnswer,
 };
 ghost use Rattle.lcr_core.specs.Version.{versionAnswer};
-ghost use Rattle.exports.specs.Cells.{
+ghost use Rattle.border_out.specs.Cells.{
   versionNumber,
   sideLeft,
   positionsLeft,
@@ -26,28 +26,7 @@ ghost use Rattle.exports.specs.Cells.{
   markNumber,
   markLeft,
 };
-use lcr_core::doors::CellAnswer;
-use lcr_core::doors::EdgeAnswer;
-use lcr_core::doors::MarkAnswer;
-use lcr_core::doors::PlaceAnswer;
-use lcr_core::doors::ShellAnswer;
 use lcr_core::version::Version;
-use lcr_core::version::VersionAnswer;
-
-fn put_version(answer: VersionAnswer, side: &mut u16, positions: &mut usize) -> u32
-    ensures { λ r. ⌜ r ≡ versionNumber answer ⌝ }
-    ensures { λ _. ⌜ now (side .exit) ≡ sideLeft answer (now (side .entry)) ⌝ }
-    ensures { λ _. ⌜ now (positions .exit) ≡ positionsLeft answer (now (positions .entry)) ⌝ }
-{
-    match answer {
-        VersionAnswer::Known(v) => {
-            *side = v.side();
-            *positions = v.positions();
-            0
-        }
-        VersionAnswer::Refused(n) => n,
-    }
-}
 
 // Cells on a side of a version's symbol, and positions round its ring.
 #[no_mangle]
@@ -58,20 +37,7 @@ pub extern "C" fn lcr_version(version: u8, side: &mut u16, positions: &mut usize
         now (positions .exit)
         ≡ positionsLeft (versionAnswer version) (now (positions .entry)) ⌝ }
 {
-    put_version(Version::new(version), side, positions)
-}
-
-fn put_depth(answer: ShellAnswer, depth: &mut usize) -> u32
-    ensures { λ r. ⌜ r ≡ depthNumber answer ⌝ }
-    ensures { λ _. ⌜ now (depth .exit) ≡ depthLeft answer (now (depth .entry)) ⌝ }
-{
-    match answer {
-        ShellAnswer::Depth(d) => {
-            *depth = d;
-            0
-        }
-        ShellAnswer::Refused(n) => n,
-    }
+    border_out::cells::put_version(Version::new(version), side, positions)
 }
 
 // How far outside the symbol a cell lies.
@@ -82,22 +48,7 @@ pub extern "C" fn lcr_shell(version: u8, x: i32, y: i32, depth: &mut usize) -> u
         now (depth .exit)
         ≡ depthLeft (shellAnswer version x y) (now (depth .entry)) ⌝ }
 {
-    put_depth(lcr_core::doors::shell(version, x, y), depth)
-}
-
-fn put_edge(answer: EdgeAnswer, edge: &mut usize, offset: &mut i32) -> u32
-    ensures { λ r. ⌜ r ≡ edgeNumber answer ⌝ }
-    ensures { λ _. ⌜ now (edge .exit) ≡ edgeLeft answer (now (edge .entry)) ⌝ }
-    ensures { λ _. ⌜ now (offset .exit) ≡ offsetLeft answer (now (offset .entry)) ⌝ }
-{
-    match answer {
-        EdgeAnswer::Along(e, o) => {
-            *edge = e;
-            *offset = o;
-            0
-        }
-        EdgeAnswer::Refused(n) => n,
-    }
+    border_out::cells::put_depth(lcr_core::doors::shell(version, x, y), depth)
 }
 
 // The edge that a cell sits on, and its coordinate along it.
@@ -115,25 +66,11 @@ pub extern "C" fn lcr_edge_and_offset(
         now (offset .exit)
         ≡ offsetLeft (edgeAnswer version x y) (now (offset .entry)) ⌝ }
 {
-    put_edge(
+    border_out::cells::put_edge(
         lcr_core::doors::edge_and_offset(version, x, y),
         edge,
         offset,
     )
-}
-
-fn put_place(answer: PlaceAnswer, position: &mut usize) -> u32
-    ensures { λ r. ⌜ r ≡ placeNumber answer ⌝ }
-    ensures { λ _. ⌜ now (position .exit) ≡ placeLeft answer (now (position .entry)) ⌝ }
-{
-    match answer {
-        PlaceAnswer::At(p) => {
-            *position = p;
-            0
-        }
-        PlaceAnswer::Outside => 255,
-        PlaceAnswer::Refused(n) => n,
-    }
 }
 
 // The position of a cell of the ring.
@@ -144,24 +81,7 @@ pub extern "C" fn lcr_position(version: u8, x: i32, y: i32, position: &mut usize
         now (position .exit)
         ≡ placeLeft (placeAnswer version x y) (now (position .entry)) ⌝ }
 {
-    put_place(lcr_core::doors::position(version, x, y), position)
-}
-
-fn put_cell(answer: CellAnswer, x: &mut i32, y: &mut i32) -> u32
-    ensures { λ r. ⌜ r ≡ cellNumber answer ⌝ }
-    ensures { λ _. ⌜ now (x .exit) ≡ xLeft answer (now (x .entry)) ⌝ }
-    ensures { λ _. ⌜ now (y .exit) ≡ yLeft answer (now (y .entry)) ⌝ }
-{
-    match answer {
-        CellAnswer::Found(c) => {
-            let a = c.x;
-            let b = c.y;
-            *x = a;
-            *y = b;
-            0
-        }
-        CellAnswer::Refused(n) => n,
-    }
+    border_out::cells::put_place(lcr_core::doors::position(version, x, y), position)
 }
 
 // The outer cell of a position.
@@ -171,7 +91,7 @@ pub extern "C" fn lcr_outer_cell(version: u8, p: usize, x: &mut i32, y: &mut i32
     ensures { λ _. ⌜ now (x .exit) ≡ xLeft (outerAnswer version p) (now (x .entry)) ⌝ }
     ensures { λ _. ⌜ now (y .exit) ≡ yLeft (outerAnswer version p) (now (y .entry)) ⌝ }
 {
-    put_cell(lcr_core::doors::outer_cell(version, p), x, y)
+    border_out::cells::put_cell(lcr_core::doors::outer_cell(version, p), x, y)
 }
 
 // The inner cell of a position.
@@ -181,20 +101,7 @@ pub extern "C" fn lcr_inner_cell(version: u8, p: usize, x: &mut i32, y: &mut i32
     ensures { λ _. ⌜ now (x .exit) ≡ xLeft (innerAnswer version p) (now (x .entry)) ⌝ }
     ensures { λ _. ⌜ now (y .exit) ≡ yLeft (innerAnswer version p) (now (y .entry)) ⌝ }
 {
-    put_cell(lcr_core::doors::inner_cell(version, p), x, y)
-}
-
-fn put_mark(answer: MarkAnswer, light: &mut bool) -> u32
-    ensures { λ r. ⌜ r ≡ markNumber answer ⌝ }
-    ensures { λ _. ⌜ now (light .exit) ≡ markLeft answer (now (light .entry)) ⌝ }
-{
-    match answer {
-        MarkAnswer::Light(l) => {
-            *light = l;
-            0
-        }
-        MarkAnswer::Refused(n) => n,
-    }
+    border_out::cells::put_cell(lcr_core::doors::inner_cell(version, p), x, y)
 }
 
 // Whether the ring is light at a position.
@@ -203,5 +110,5 @@ pub extern "C" fn lcr_sequence_light(version: u8, p: usize, light: &mut bool) ->
     ensures { λ r. ⌜ r ≡ markNumber (markAnswer version p) ⌝ }
     ensures { λ _. ⌜ now (light .exit) ≡ markLeft (markAnswer version p) (now (light .entry)) ⌝ }
 {
-    put_mark(lcr_core::doors::sequence_light(version, p), light)
+    border_out::cells::put_mark(lcr_core::doors::sequence_light(version, p), light)
 }

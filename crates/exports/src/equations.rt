@@ -1,47 +1,43 @@
-// Equations and medians for C: the doors of crate `math`. Refusals: 9, then 10.
-use math::Answer;
-use math::Found;
-use math::Solution;
-
-fn put_number(answer: Answer, to: &mut f32) -> u32 {
-    match answer {
-        Answer::Number(x) => {
-            *to = x;
-            0
-        }
-        Answer::Refused(n) => n as u32,
-    }
-}
+// Equations and medians for C: the doors of crates `math` and `medians`. Refusals: 9, then 10.
+ghost use mathlib.Core.Path.{_≡_};
+ghost use Rattle.math.specs.Equations.{solveAnswer, fitAnswer};
+ghost use Rattle.math.specs.Median.{medianAnswer, madSigmaAnswer};
+ghost use Rattle.numbers_out.specs.Solutions.{valueLeft, ValuesLeft, givenOr, solutionNumber};
 
 // The median of values, which come into some other order.
 #[no_mangle]
-pub extern "C" fn lcr_median(values: &mut [f32], median: &mut f32) -> u32 {
-    put_number(math::median(values), median)
+pub extern "C" fn lcr_median(values: &mut [f32], median: &mut f32) -> u32
+    ensures { λ r. ⌜ r ≡ medianAnswer (now (values .entry)) .number ⌝ }
+    ensures { λ _. ⌜
+        now (median .exit)
+        ≡ valueLeft (medianAnswer (now (values .entry)) .values) (now (median .entry)) ⌝ }
+    ensures { λ r. ⌜ ValuesLeft r (now (values .entry)) (now (values .exit)) ⌝ }
+{
+    numbers_out::solutions::put_number(math::median(values), median)
 }
 
 // The median distance from the median, times 1.4826.
 #[no_mangle]
-pub extern "C" fn lcr_mad_sigma(values: &[f32], sigma: &mut f32) -> u32 {
-    put_number(math::mad_sigma(values), sigma)
-}
-
-fn put_solution(answer: Solution, x: &mut [f64; 8]) -> u32 {
-    let from = answer.x;
-    let found = answer.found;
-    match found {
-        Found::Solved => {
-            *x = from;
-            0
-        }
-        Found::Nothing => 255,
-        Found::Refused(n) => n as u32,
-    }
+pub extern "C" fn lcr_mad_sigma(values: &[f32], sigma: &mut f32) -> u32
+    ensures { λ r. ⌜ r ≡ madSigmaAnswer (now (values .entry)) .number ⌝ }
+    ensures { λ _. ⌜
+        now (sigma .exit)
+        ≡ valueLeft (madSigmaAnswer (now (values .entry)) .values) (now (sigma .entry)) ⌝ }
+{
+    numbers_out::solutions::put_number(math::mad_sigma(values), sigma)
 }
 
 // The solution of n equations: its n numbers, then +0.
 #[no_mangle]
-pub extern "C" fn lcr_solve(a: &[f64], b: &[f64], n: usize, x: &mut [f64; 8]) -> u32 {
-    put_solution(math::solve(a, b, n), x)
+pub extern "C" fn lcr_solve(a: &[f64], b: &[f64], n: usize, x: &mut [f64; 8]) -> u32
+    ensures { λ r. ⌜
+        r ≡ solutionNumber (solveAnswer n (now (a .entry)) (now (b .entry))) ⌝ }
+    ensures { λ _. ⌜
+        now (x .exit)
+        ≡ givenOr (solveAnswer n (now (a .entry)) (now (b .entry)) .values)
+        (now (x .entry)) ⌝ }
+{
+    numbers_out::solutions::put_solution(math::solve(a, b, n), x)
 }
 
 // The fit of n coefficients to samples: its n numbers, then +0.
@@ -51,6 +47,13 @@ pub extern "C" fn lcr_least_squares(
     targets: &[f64],
     n: usize,
     x: &mut [f64; 8],
-) -> u32 {
-    put_solution(math::least_squares(basis, targets, n), x)
+) -> u32
+    ensures { λ r. ⌜
+        r ≡ solutionNumber (fitAnswer n (now (basis .entry)) (now (targets .entry))) ⌝ }
+    ensures { λ _. ⌜
+        now (x .exit)
+        ≡ givenOr (fitAnswer n (now (basis .entry)) (now (targets .entry)) .values)
+        (now (x .entry)) ⌝ }
+{
+    numbers_out::solutions::put_solution(math::least_squares(basis, targets, n), x)
 }

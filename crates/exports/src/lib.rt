@@ -8,7 +8,6 @@
 // called then.
 pub mod cells;
 pub mod equations;
-pub mod inner;
 pub mod listings;
 pub mod maps;
 pub mod marks_exports;

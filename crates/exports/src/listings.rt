@@ -2,7 +2,7 @@
 ghost use mathlib.Core.Path.{_≡_};
 ghost use lib.ListN.{length};
 ghost use Rattle.listing.specs.Listing.{checkRecord, textOf, filled};
-ghost use Rattle.exports.specs.Answers.{leftAs};
+ghost use Rattle.pictures_out.specs.Answers.{leftAs};
 
 // The listing of the picture of a record: its bytes, zeros after them, and how many there are.
 #[no_mangle]

@@ -3,20 +3,8 @@ ghost use mathlib.Core.Path.{_≡_};
 ghost use lib.ListN.{length};
 ghost use Rattle.marks.specs.Pose.{countsOf};
 ghost use Rattle.marks.specs.Doors.{classifyAnswer, marksAfter, correlateAnswer};
-ghost use Rattle.exports.specs.Marks.{classifyNumber, bestNumber};
-ghost use Rattle.exports.specs.Marks.{scoreLeft, cornerLeft, reversedLeft, countsLeft};
-use marks::classify::Classified;
-use marks::correlate::Best;
-
-// 0, or the refusal's number.
-fn number_of(answer: Classified) -> u32
-    ensures { λ r. ⌜ r ≡ classifyNumber answer ⌝ }
-{
-    match answer {
-        Classified::Done => 0,
-        Classified::Refused(n) => n,
-    }
-}
+ghost use Rattle.border_out.specs.Poses.{classifyNumber, bestNumber};
+ghost use Rattle.border_out.specs.Poses.{scoreLeft, cornerLeft, reversedLeft, countsLeft};
 
 // Light or dark at each position, from its luma.
 #[no_mangle]
@@ -28,39 +16,7 @@ pub extern "C" fn lcr_classify(version: u8, lumas: &[f32], marks: &mut [bool]) -
         ≡ marksAfter (classifyAnswer version (now (lumas .entry)) (now (marks .entry)))
         (now (lumas .entry)) (now (marks .entry)) ⌝ }
 {
-    number_of(marks::classify::classify(version, lumas, marks))
-}
-
-fn put_counts(from: [u16; 8], counts: &mut [u16; 8])
-    ensures { λ _. ⌜ now (counts .exit) ≡ from ⌝ }
-{
-    *counts = from;
-}
-
-fn put_best(
-    best: Best,
-    from: [u16; 8],
-    score: &mut f32,
-    corner: &mut usize,
-    reversed: &mut bool,
-    counts: &mut [u16; 8],
-) -> u32
-    ensures { λ r. ⌜ r ≡ bestNumber best ⌝ }
-    ensures { λ _. ⌜ now (score .exit) ≡ scoreLeft best (now (score .entry)) ⌝ }
-    ensures { λ _. ⌜ now (corner .exit) ≡ cornerLeft best (now (corner .entry)) ⌝ }
-    ensures { λ _. ⌜ now (reversed .exit) ≡ reversedLeft best (now (reversed .entry)) ⌝ }
-    ensures { λ _. ⌜ now (counts .exit) ≡ countsLeft best from (now (counts .entry)) ⌝ }
-{
-    match best {
-        Best::Pose(s, r, b) => {
-            *score = s;
-            *corner = r;
-            *reversed = b;
-            put_counts(from, counts);
-            0
-        }
-        Best::Refused(n) => n,
-    }
+    border_out::poses::number_of(marks::classify::classify(version, lumas, marks))
 }
 
 // The best pose of a ring's marks, and the agreement counts of the eight poses.
@@ -91,5 +47,5 @@ pub extern "C" fn lcr_correlate(
     let answer = marks::correlate::correlate(version, marks);
     let best = answer.best;
     let from = answer.counts;
-    put_best(best, from, score, corner, reversed, counts)
+    border_out::poses::put_best(best, from, score, corner, reversed, counts)
 }

@@ -7,29 +7,14 @@ ghost use lib.ListN.{length};
 ghost use Rattle.hull.specs.Points.{many, laid};
 ghost use Rattle.hull.specs.Hull.{hullOf, hullFloats};
 ghost use Rattle.hull.specs.Quad.{quadFloats};
-ghost use Rattle.exports.specs.Answers.{noneNumber, givenOr, eightOf};
-ghost use Rattle.exports.specs.Answers.{
+ghost use Rattle.numbers_out.specs.Solutions.{noneNumber, givenOr};
+ghost use Rattle.pictures_out.specs.Answers.{
   outlineAnswer,
   outlineLeft,
   outlineNumber,
   pointsLeft,
 };
 use hull::points::Corners;
-use hull::points::Quad;
-use outline::Answer;
-
-fn put_many(answer: Answer, points: &mut usize) -> u32
-    ensures { λ r. ⌜ r ≡ outlineNumber answer ⌝ }
-    ensures { λ _. ⌜ now (points .exit) ≡ pointsLeft answer (now (points .entry)) ⌝ }
-{
-    match answer {
-        Answer::Points(n) => {
-            *points = n;
-            0
-        }
-        Answer::Refused(n) => n,
-    }
-}
 
 // The boundary points of a region's box, and how many there are.
 #[no_mangle]
@@ -71,7 +56,7 @@ pub extern "C" fn lcr_outline(
         y1,
         out,
     );
-    put_many(a, points)
+    pictures_out::shapes::put_many(a, points)
 }
 
 // The vertices of the hull of points, and how many there are. 3 where out has fewer numbers.
@@ -97,17 +82,6 @@ pub extern "C" fn lcr_convex_hull(points: &[f32], out: &mut [f32], vertices: &mu
     0
 }
 
-// The eight numbers of a quad.
-pub fn numbers(q: Quad) -> [f32; 8]
-    ensures { λ r. ⌜ r ≡ eightOf q ⌝ }
-{
-    let a = q.a;
-    let b = q.b;
-    let c = q.c;
-    let d = q.d;
-    [a.x, a.y, b.x, b.y, c.x, c.y, d.x, d.y]
-}
-
 // The quad of the vertices of a hull.
 #[no_mangle]
 pub extern "C" fn lcr_quad(vertices: &[f32], quad: &mut [f32; 8]) -> u32
@@ -118,7 +92,7 @@ pub extern "C" fn lcr_quad(vertices: &[f32], quad: &mut [f32; 8]) -> u32
 {
     match hull::quad(vertices) {
         Corners::Found(q) => {
-            *quad = numbers(q);
+            *quad = pictures_out::shapes::numbers(q);
             0
         }
         Corners::NoQuad => 255,

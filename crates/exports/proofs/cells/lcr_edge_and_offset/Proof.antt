@@ -1,7 +1,7 @@
 -- `exports::cells::lcr_edge_and_offset` meets its contract. Assumes nothing.
 use mathlib.Core.Path.{ap, _∙_}
 use Rattle.lcr_core.specs.Doors.{edgeAnswer}
-use Rattle.exports.specs.Cells.{edgeNumber, edgeLeft, offsetLeft}
+use Rattle.border_out.specs.Cells.{edgeNumber, edgeLeft, offsetLeft}
 use Rattle.exports.proofs.Signed.{at-cell}
 use denote.Ref.{now}
 use borrow.Author.Needs.{needs}

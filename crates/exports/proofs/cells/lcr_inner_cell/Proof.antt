@@ -1,6 +1,6 @@
 -- `exports::cells::lcr_inner_cell` meets its contract. Assumes nothing.
 use mathlib.Core.Path.{ap, _∙_}
-use Rattle.exports.specs.Cells.{cellNumber, xLeft, yLeft}
+use Rattle.border_out.specs.Cells.{cellNumber, xLeft, yLeft}
 use denote.Ref.{now}
 use borrow.Author.Needs.{needs}
 use Rattle.exports.proofs.cells.lcr_inner_cell.Statement.{statement}

@@ -1,7 +1,7 @@
 -- `exports::cells::lcr_position` meets its contract. Assumes nothing.
 use mathlib.Core.Path.{ap, _∙_}
 use Rattle.lcr_core.specs.Doors.{placeAnswer}
-use Rattle.exports.specs.Cells.{placeNumber, placeLeft}
+use Rattle.border_out.specs.Cells.{placeNumber, placeLeft}
 use Rattle.exports.proofs.Signed.{at-cell}
 use denote.Ref.{now}
 use borrow.Author.Needs.{needs}

@@ -1,6 +1,6 @@
 -- `exports::cells::lcr_sequence_light` meets its contract. Assumes nothing.
 use mathlib.Core.Path.{ap, _∙_}
-use Rattle.exports.specs.Cells.{markNumber, markLeft}
+use Rattle.border_out.specs.Cells.{markNumber, markLeft}
 use denote.Ref.{now}
 use borrow.Author.Needs.{needs}
 use Rattle.exports.proofs.cells.lcr_sequence_light.Statement.{statement}

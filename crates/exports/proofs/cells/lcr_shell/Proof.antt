@@ -1,7 +1,7 @@
 -- `exports::cells::lcr_shell` meets its contract. Assumes nothing.
 use mathlib.Core.Path.{ap, _∙_}
 use Rattle.lcr_core.specs.Doors.{shellAnswer}
-use Rattle.exports.specs.Cells.{depthNumber, depthLeft}
+use Rattle.border_out.specs.Cells.{depthNumber, depthLeft}
 use Rattle.exports.proofs.Signed.{at-cell}
 use denote.Ref.{now}
 use borrow.Author.Needs.{needs}

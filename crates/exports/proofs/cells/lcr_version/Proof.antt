@@ -1,7 +1,7 @@
 -- `exports::cells::lcr_version` meets its contract. Assumes nothing.
 use mathlib.Core.Path.{ap, _∙_}
 use denote.Ref.{now}
-use Rattle.exports.specs.Cells.{versionNumber, sideLeft, positionsLeft}
+use Rattle.border_out.specs.Cells.{versionNumber, sideLeft, positionsLeft}
 use borrow.Author.Needs.{needs}
 use Rattle.exports.proofs.cells.lcr_version.Statement.{statement}
 use Rattle.exports.proofs.cells.lcr_version.Tie as tie

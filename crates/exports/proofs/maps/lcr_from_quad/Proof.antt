@@ -1,7 +1,7 @@
 -- `exports::maps::lcr_from_quad` meets its contract. Assumes nothing.
 use mathlib.Core.Path.{ap, _∙_}
 use denote.Ref.{now}
-use Rattle.exports.specs.Maps.{mappedNumber, mappedLeft}
+use Rattle.numbers_out.specs.Maps.{mappedNumber, mappedLeft}
 use borrow.Author.Needs.{needs}
 use Rattle.exports.proofs.maps.lcr_from_quad.Statement.{statement}
 use Rattle.exports.proofs.maps.lcr_from_quad.Tie as tie

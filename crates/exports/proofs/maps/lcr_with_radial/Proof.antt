@@ -2,7 +2,7 @@
 use mathlib.Core.Path.{refl, ap, _∙_}
 use Rattle.transform.specs.declared.Transform.{Transform}
 use Rattle.transform.specs.Mapping.{withRadial}
-use Rattle.exports.specs.Maps.{elevenOf}
+use Rattle.numbers_out.specs.Maps.{elevenOf}
 use borrow.Author.Needs.{needs}
 use Rattle.exports.proofs.maps.lcr_with_radial.Statement.{statement}
 use Rattle.exports.proofs.maps.lcr_with_radial.Tie as tie

@@ -2,7 +2,7 @@
 use mathlib.Core.Path.{ap, _∙_}
 use denote.Ref.{now}
 use Rattle.marks.specs.Doors.{marksAfter}
-use Rattle.exports.specs.Marks.{classifyNumber}
+use Rattle.border_out.specs.Poses.{classifyNumber}
 use borrow.Author.Needs.{needs}
 use Rattle.exports.proofs.marks_exports.lcr_classify.Statement.{statement}
 use Rattle.exports.proofs.marks_exports.lcr_classify.Tie as tie

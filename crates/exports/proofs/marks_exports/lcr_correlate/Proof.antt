@@ -2,7 +2,7 @@
 use mathlib.Core.Path.{ap, _∙_}
 use denote.Ref.{now}
 use Rattle.marks.specs.Pose.{countsOf}
-use Rattle.exports.specs.Marks.{bestNumber, scoreLeft, cornerLeft, reversedLeft, countsLeft}
+use Rattle.border_out.specs.Poses.{bestNumber, scoreLeft, cornerLeft, reversedLeft, countsLeft}
 use Rattle.exports.proofs.MarkLaws.{counts-beside}
 use borrow.Author.Needs.{needs}
 use Rattle.exports.proofs.marks_exports.lcr_correlate.Statement.{statement}

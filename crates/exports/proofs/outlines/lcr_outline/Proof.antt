@@ -1,7 +1,7 @@
 -- `exports::outlines::lcr_outline` meets its contract. Assumes nothing.
 use mathlib.Core.Path.{ap, _∙_}
 use denote.Ref.{now}
-use Rattle.exports.specs.Answers.{outlineNumber, pointsLeft}
+use Rattle.pictures_out.specs.Answers.{outlineNumber, pointsLeft}
 use borrow.Author.Needs.{needs}
 use Rattle.exports.proofs.outlines.lcr_outline.Statement.{statement}
 use Rattle.exports.proofs.outlines.lcr_outline.Tie as tie

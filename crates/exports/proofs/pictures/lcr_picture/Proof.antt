@@ -5,7 +5,7 @@ use Rattle.laws.specs.Plane.{plane}
 use Rattle.regions.specs.declared.answer.PictureAnswer.{PictureAnswer}
 use Rattle.regions.specs.Door.{checkGrids, keptRegions, levelsAfter, labelsAfter, StackAfter}
 use lib.ListN.{length}
-use Rattle.exports.specs.Pictures.{regionNumbers}
+use Rattle.pictures_out.specs.Kept.{regionNumbers}
 use Rattle.exports.proofs.Leaves.{left-refused, number-by, regions-by}
 use borrow.Author.Needs.{needs}
 use Rattle.exports.proofs.pictures.lcr_picture.Statement.{statement}

@@ -1,0 +1,118 @@
+// The answers of the doors of border cells, crate `lcr_core`.
+ghost use mathlib.Core.Path.{_≡_};
+ghost use Rattle.border_out.specs.Cells.{
+  versionNumber,
+  sideLeft,
+  positionsLeft,
+  depthNumber,
+  depthLeft,
+  edgeNumber,
+  edgeLeft,
+  offsetLeft,
+  placeNumber,
+  placeLeft,
+  cellNumber,
+  xLeft,
+  yLeft,
+  markNumber,
+  markLeft,
+};
+use lcr_core::doors::CellAnswer;
+use lcr_core::doors::EdgeAnswer;
+use lcr_core::doors::MarkAnswer;
+use lcr_core::doors::PlaceAnswer;
+use lcr_core::doors::ShellAnswer;
+use lcr_core::version::VersionAnswer;
+
+// A version's side and positions.
+pub fn put_version(answer: VersionAnswer, side: &mut u16, positions: &mut usize) -> u32
+    ensures { λ r. ⌜ r ≡ versionNumber answer ⌝ }
+    ensures { λ _. ⌜ now (side .exit) ≡ sideLeft answer (now (side .entry)) ⌝ }
+    ensures { λ _. ⌜ now (positions .exit) ≡ positionsLeft answer (now (positions .entry)) ⌝ }
+{
+    match answer {
+        VersionAnswer::Known(v) => {
+            *side = v.side();
+            *positions = v.positions();
+            0
+        }
+        VersionAnswer::Refused(n) => n,
+    }
+}
+
+// How far outside the symbol a cell lies.
+pub fn put_depth(answer: ShellAnswer, depth: &mut usize) -> u32
+    ensures { λ r. ⌜ r ≡ depthNumber answer ⌝ }
+    ensures { λ _. ⌜ now (depth .exit) ≡ depthLeft answer (now (depth .entry)) ⌝ }
+{
+    match answer {
+        ShellAnswer::Depth(d) => {
+            *depth = d;
+            0
+        }
+        ShellAnswer::Refused(n) => n,
+    }
+}
+
+// The edge that a cell sits on, and its coordinate along it.
+pub fn put_edge(answer: EdgeAnswer, edge: &mut usize, offset: &mut i32) -> u32
+    ensures { λ r. ⌜ r ≡ edgeNumber answer ⌝ }
+    ensures { λ _. ⌜ now (edge .exit) ≡ edgeLeft answer (now (edge .entry)) ⌝ }
+    ensures { λ _. ⌜ now (offset .exit) ≡ offsetLeft answer (now (offset .entry)) ⌝ }
+{
+    match answer {
+        EdgeAnswer::Along(e, o) => {
+            *edge = e;
+            *offset = o;
+            0
+        }
+        EdgeAnswer::Refused(n) => n,
+    }
+}
+
+// The position of a cell of the ring.
+pub fn put_place(answer: PlaceAnswer, position: &mut usize) -> u32
+    ensures { λ r. ⌜ r ≡ placeNumber answer ⌝ }
+    ensures { λ _. ⌜ now (position .exit) ≡ placeLeft answer (now (position .entry)) ⌝ }
+{
+    match answer {
+        PlaceAnswer::At(p) => {
+            *position = p;
+            0
+        }
+        PlaceAnswer::Outside => 255,
+        PlaceAnswer::Refused(n) => n,
+    }
+}
+
+// The cell of a position.
+pub fn put_cell(answer: CellAnswer, x: &mut i32, y: &mut i32) -> u32
+    ensures { λ r. ⌜ r ≡ cellNumber answer ⌝ }
+    ensures { λ _. ⌜ now (x .exit) ≡ xLeft answer (now (x .entry)) ⌝ }
+    ensures { λ _. ⌜ now (y .exit) ≡ yLeft answer (now (y .entry)) ⌝ }
+{
+    match answer {
+        CellAnswer::Found(c) => {
+            let a = c.x;
+            let b = c.y;
+            *x = a;
+            *y = b;
+            0
+        }
+        CellAnswer::Refused(n) => n,
+    }
+}
+
+// Whether the ring is light at a position.
+pub fn put_mark(answer: MarkAnswer, light: &mut bool) -> u32
+    ensures { λ r. ⌜ r ≡ markNumber answer ⌝ }
+    ensures { λ _. ⌜ now (light .exit) ≡ markLeft answer (now (light .entry)) ⌝ }
+{
+    match answer {
+        MarkAnswer::Light(l) => {
+            *light = l;
+            0
+        }
+        MarkAnswer::Refused(n) => n,
+    }
+}

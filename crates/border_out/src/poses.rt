@@ -1,0 +1,49 @@
+// The answers of the doors of ring marks, crate `marks`.
+ghost use mathlib.Core.Path.{_≡_};
+ghost use Rattle.border_out.specs.Poses.{classifyNumber, bestNumber};
+ghost use Rattle.border_out.specs.Poses.{scoreLeft, cornerLeft, reversedLeft, countsLeft};
+use marks::classify::Classified;
+use marks::correlate::Best;
+
+// Of marks told apart: 0, or the refusal's number.
+pub fn number_of(answer: Classified) -> u32
+    ensures { λ r. ⌜ r ≡ classifyNumber answer ⌝ }
+{
+    match answer {
+        Classified::Done => 0,
+        Classified::Refused(n) => n,
+    }
+}
+
+fn put_counts(from: [u16; 8], counts: &mut [u16; 8])
+    ensures { λ _. ⌜ now (counts .exit) ≡ from ⌝ }
+{
+    *counts = from;
+}
+
+// The best pose, and the counts beside it.
+pub fn put_best(
+    best: Best,
+    from: [u16; 8],
+    score: &mut f32,
+    corner: &mut usize,
+    reversed: &mut bool,
+    counts: &mut [u16; 8],
+) -> u32
+    ensures { λ r. ⌜ r ≡ bestNumber best ⌝ }
+    ensures { λ _. ⌜ now (score .exit) ≡ scoreLeft best (now (score .entry)) ⌝ }
+    ensures { λ _. ⌜ now (corner .exit) ≡ cornerLeft best (now (corner .entry)) ⌝ }
+    ensures { λ _. ⌜ now (reversed .exit) ≡ reversedLeft best (now (reversed .entry)) ⌝ }
+    ensures { λ _. ⌜ now (counts .exit) ≡ countsLeft best from (now (counts .entry)) ⌝ }
+{
+    match best {
+        Best::Pose(s, r, b) => {
+            *score = s;
+            *corner = r;
+            *reversed = b;
+            put_counts(from, counts);
+            0
+        }
+        Best::Refused(n) => n,
+    }
+}

@@ -1,0 +1,55 @@
+-- A transform as the eleven numbers that C functions take and give, and what is left where there may be none. Definitions only.
+-- Assumes nothing.
+use mathlib.Core.List.{List, [], _∷_}
+use Prim.Native.Nat.{ℕ}
+use lib.ListN.{getD}
+use lib.Ieee.{Float, nan}
+use Rattle.hull.specs.Points.{many}
+use Rattle.boundary.specs.Boundary.{joined}
+use Rattle.fit.specs.F32.{xOf, yOf}
+use Rattle.transform.specs.Mapping.{applied}
+use Rattle.transform.specs.declared.Transform.{Transform}
+use Rattle.transform.specs.declared.Mapped.{Mapped}
+use Rattle.transform.specs.declared.Mapped.the-variants as mapped
+
+-- The transform of eleven numbers: coefficients m0 to m7, then the lens cx, cy, kappa.
+abbrev pub mapOf : List Float → Transform
+mapOf s = record {
+  m0 = getD s 0 nan;
+  m1 = getD s 1 nan;
+  m2 = getD s 2 nan;
+  m3 = getD s 3 nan;
+  m4 = getD s 4 nan;
+  m5 = getD s 5 nan;
+  m6 = getD s 6 nan;
+  m7 = getD s 7 nan;
+  cx = getD s 8 nan;
+  cy = getD s 9 nan;
+  kappa = getD s 10 nan;
+}
+
+-- The eleven numbers of a transform.
+abbrev pub elevenOf : Transform → List Float
+elevenOf t =
+    t .m0 ∷ t .m1 ∷ t .m2 ∷ t .m3 ∷ t .m4 ∷ t .m5 ∷ t .m6 ∷ t .m7 ∷ t .cx ∷ t .cy ∷ t .kappa ∷ []
+
+-- The result where a transform may be none, and what is left of a list of eleven.
+abbrev pub mappedNumber : Mapped → ℕ
+mappedNumber mapped.None = 255
+mappedNumber (mapped.Some t) = 0
+
+abbrev pub mappedLeft : Mapped → List Float → List Float
+mappedLeft mapped.None old = old
+mappedLeft (mapped.Some t) old = elevenOf t
+
+-- ---- many places
+-- The pixel of place i of a list, u and v by turns: its x and y.
+abbrev pub pixelAt : Transform → List Float → ℕ → List Float
+pixelAt t s i = applied t (xOf s i) (yOf s i) .x ∷ applied t (xOf s i) (yOf s i) .y ∷ []
+
+-- The pixels of the first n places, and of all; an odd last number is left out.
+abbrev pub pixelsTo : Transform → List Float → ℕ → List Float
+pixelsTo t s n = joined n (pixelAt t s)
+
+abbrev pub pixelsOf : Transform → List Float → List Float
+pixelsOf t s = pixelsTo t s (many s)

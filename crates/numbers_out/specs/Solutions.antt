@@ -1,0 +1,36 @@
+-- What C functions answer and leave, by what the doors of equations and medians say: a refusal's number or none, and values.
+-- Definitions only. Assumes nothing.
+use mathlib.Core.Path.{_≡_}
+use mathlib.Core.List.{List, [], _∷_}
+use Prim.Native.Nat.{ℕ, zero, suc}
+use lib.Ieee.{Float}
+use Rattle.math.specs.Answers.{Said}
+use Rattle.math.specs.Median.{SameValues}
+
+-- An out-parameter that takes the first value: as before where there is none.
+abbrev pub valueLeft : List Float → Float → Float
+valueLeft [] old = old
+valueLeft (x ∷ xs) old = x
+
+-- What `lcr_median` leaves in its list, by its result: the same values in some order, or the list as it was.
+abbrev pub ValuesLeft : ℕ → List Float → List Float → Type 0
+ValuesLeft zero s t = SameValues s t
+ValuesLeft (suc n) s t = t ≡ s
+
+-- Numbers that are none where there are none: the result, and what is left of a list.
+abbrev pub noneNumber : List Float → ℕ
+noneNumber [] = 255
+noneNumber (x ∷ xs) = 0
+
+abbrev pub givenOr : List Float → List Float → List Float
+givenOr [] old = old
+givenOr (x ∷ xs) old = x ∷ xs
+
+-- The result by a refusal's number: the number, and what follows where there is none.
+abbrev pub refusedOr : ℕ → ℕ → ℕ
+refusedOr zero n = n
+refusedOr (suc k) n = suc k
+
+-- The result of a solution.
+abbrev pub solutionNumber : Said → ℕ
+solutionNumber s = refusedOr (s .number) (noneNumber (s .values))

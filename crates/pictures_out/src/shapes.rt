@@ -1,0 +1,30 @@
+// The outline door's answer, and a quad's corners as eight numbers.
+ghost use mathlib.Core.Path.{_≡_};
+ghost use Rattle.pictures_out.specs.Answers.{outlineNumber, pointsLeft, eightOf};
+use hull::points::Quad;
+use outline::Answer;
+
+// How many points there are.
+pub fn put_many(answer: Answer, points: &mut usize) -> u32
+    ensures { λ r. ⌜ r ≡ outlineNumber answer ⌝ }
+    ensures { λ _. ⌜ now (points .exit) ≡ pointsLeft answer (now (points .entry)) ⌝ }
+{
+    match answer {
+        Answer::Points(n) => {
+            *points = n;
+            0
+        }
+        Answer::Refused(n) => n,
+    }
+}
+
+// The eight numbers of a quad.
+pub fn numbers(q: Quad) -> [f32; 8]
+    ensures { λ r. ⌜ r ≡ eightOf q ⌝ }
+{
+    let a = q.a;
+    let b = q.b;
+    let c = q.c;
+    let d = q.d;
+    [a.x, a.y, b.x, b.y, c.x, c.y, d.x, d.y]
+}
