@@ -1,7 +1,7 @@
-// Equations and medians for C: the doors of crate `math`. Refusals: 9, then 10.
-use math::Answer;
+// Equations and medians for C: the doors of crates `math` and `medians`. Refusals: 9, then 10.
 use math::Found;
 use math::Solution;
+use medians::Answer;
 
 fn put_number(answer: Answer, to: &mut f32) -> u32 {
     match answer {
@@ -16,13 +16,13 @@ fn put_number(answer: Answer, to: &mut f32) -> u32 {
 // The median of values, which come into some other order.
 #[no_mangle]
 pub extern "C" fn lcr_median(values: &mut [f32], median: &mut f32) -> u32 {
-    put_number(math::median(values), median)
+    put_number(medians::median(values), median)
 }
 
 // The median distance from the median, times 1.4826.
 #[no_mangle]
 pub extern "C" fn lcr_mad_sigma(values: &[f32], sigma: &mut f32) -> u32 {
-    put_number(math::mad_sigma(values), sigma)
+    put_number(medians::mad_sigma(values), sigma)
 }
 
 fn put_solution(answer: Solution, x: &mut [f64; 8]) -> u32 {
