@@ -1,7 +1,7 @@
 // Equations and medians for C: the doors of crates `math` and `medians`. Refusals: 9, then 10.
 ghost use mathlib.Core.Path.{_≡_};
 ghost use Rattle.math.specs.Equations.{solveAnswer, fitAnswer};
-ghost use Rattle.math.specs.Median.{medianAnswer, madSigmaAnswer};
+ghost use Rattle.medians.specs.Median.{medianAnswer, madSigmaAnswer};
 ghost use Rattle.numbers_out.specs.Solutions.{valueLeft, ValuesLeft, givenOr, solutionNumber};
 
 // The median of values, which come into some other order.
@@ -13,7 +13,7 @@ pub extern "C" fn lcr_median(values: &mut [f32], median: &mut f32) -> u32
         ≡ valueLeft (medianAnswer (now (values .entry)) .values) (now (median .entry)) ⌝ }
     ensures { λ r. ⌜ ValuesLeft r (now (values .entry)) (now (values .exit)) ⌝ }
 {
-    numbers_out::solutions::put_number(math::median(values), median)
+    numbers_out::solutions::put_number(medians::median(values), median)
 }
 
 // The median distance from the median, times 1.4826.
@@ -24,7 +24,7 @@ pub extern "C" fn lcr_mad_sigma(values: &[f32], sigma: &mut f32) -> u32
         now (sigma .exit)
         ≡ valueLeft (madSigmaAnswer (now (values .entry)) .values) (now (sigma .entry)) ⌝ }
 {
-    numbers_out::solutions::put_number(math::mad_sigma(values), sigma)
+    numbers_out::solutions::put_number(medians::mad_sigma(values), sigma)
 }
 
 // The solution of n equations: its n numbers, then +0.

@@ -11,6 +11,7 @@ use Rattle.laws.proofs.Steps.{take-replicate, drop-replicate}
 use borrow.Author.Tests.{eq-eqb, ne-eqb, le-leb, lt-leb, lt-ltb, le-ltb}
 use Rattle.laws.specs.Check.{orRefuse}
 use Rattle.math.specs.Answers.{refuse, solutionSaid}
+use Rattle.math.specs.declared.Solution.{Solution}
 use Rattle.math.specs.Equations.{zeros, without, solution, solveAnswer, normal, fitted, fitAnswer}
 
 -- ---- lists of +0
@@ -91,11 +92,12 @@ fit-few n a b h l e f =
     sym (fit-by n a b true true (size-ok n h l) (eq-eqb _ _ e)
     ∙ ap (λ (z : Bool). solutionSaid (cond z without (solution n (normal n a b .m) (normal n a b .v)))) (lt-ltb _ _ f))
 
-pub fit-pass : (n : ℕ) (a b : List Float) → 1 ≤ n → n ≤ 8 → length a ≡ length b * n → n ≤ length b
-    → solutionSaid (solution n (normal n a b .m) (normal n a b .v)) ≡ fitAnswer n a b
+pub fit-pass : (n : ℕ) (a b : List Float) (r : Solution) → 1 ≤ n → n ≤ 8 → length a ≡ length b * n → n ≤ length b
+    → r ≡ solution n (normal n a b .m) (normal n a b .v) → solutionSaid r ≡ fitAnswer n a b
 unfolding fitted
-fit-pass n a b h l e f =
-    sym (fit-by n a b true true (size-ok n h l) (eq-eqb _ _ e)
+fit-pass n a b r h l e f q =
+    ap solutionSaid q
+    ∙ sym (fit-by n a b true true (size-ok n h l) (eq-eqb _ _ e)
     ∙ ap (λ (z : Bool). solutionSaid (cond z without (solution n (normal n a b .m) (normal n a b .v)))) (le-ltb _ _ f))
 
 -- 'no remainder, and so many' is 'so many times n'

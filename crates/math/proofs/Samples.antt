@@ -96,6 +96,9 @@ run-some n a b a′ b′ y r h e f g =
     ∙ sym (ap (finished n) (sym e) ∙ ap (λ (r : Bool). finished n record { ok = r; left = sys a′ b′ }) f)
 
 -- ---- the fit
+pub run-copied : (n : ℕ) (a b m v : List Float) (r : Solution) → m ≡ a → v ≡ b → r ≡ solution n m v → r ≡ solution n a b
+run-copied n a b m v r e f q = q ∙ ap (λ (m : List Float). solution n m v) e ∙ ap (solution n a) f
+
 pub fit-is : (n : ℕ) (basis targets m v m′ v′ m″ : List Float) (r : Solution) → m ≡ zeros (n * n) → v ≡ zeros n
     → sys m′ v′ ≡ addRows basis targets n (length targets) 0 (sys m v) → m″ ≡ nudged n n 0 m′ → r ≡ solution n m″ v′
     → r ≡ solution n (normal n basis targets .m) (normal n basis targets .v)

@@ -1,10 +1,8 @@
--- What the doors of equations and medians answer, in the terms of document 01's table of doors: the number of a refusal, or values.
--- A door is a public entry; it checks what it is given. Definitions only. Assumes nothing.
-use mathlib.Core.List.{List, [], _∷_}
+-- What a door of numbers answers, in the terms of document 01's table of doors: the number of a refusal, or values; crate `medians` cites
+-- it too. A door is a public entry; it checks what it is given. Definitions only. Assumes nothing.
+use mathlib.Core.List.{List, []}
 use Prim.Native.Nat.{ℕ}
 use lib.Ieee.{Float}
-use Rattle.math.specs.declared.Answer.{Answer}
-use Rattle.math.specs.declared.Answer.the-variants.{Number, Refused}
 use Rattle.math.specs.declared.Found.{Found}
 use Rattle.math.specs.declared.Found.the-variants as found
 use Rattle.math.specs.declared.Solution.{Solution}
@@ -21,11 +19,6 @@ refuse k = record { number = k; values = [] }
 -- an accepted call; no values mean none, which is no refusal
 abbrev pub give : List Float → Said
 give xs = record { number = 0; values = xs }
-
--- what each case of `Answer` says
-abbrev pub said : Answer → Said
-said (Number x) = give (x ∷ [])
-said (Refused k) = refuse k
 
 -- what each case of `Found` says, with x beside it
 abbrev pub foundSaid : Found → List Float → Said

@@ -2,5 +2,3 @@ pub mod Lists
 pub mod Answers
 pub mod Elimination
 pub mod Equations
-pub mod Median
-pub mod Select

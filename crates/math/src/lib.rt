@@ -1,13 +1,11 @@
-// Equations and medians, as math.rs has them: `solve`, `least_squares`, `median`, `mad_sigma`.
+// Equations, as math.rs has them: `solve`, `least_squares`. Its medians are crate `medians`.
 // They are doors: public entries that check what they are given, with no `requires`.
 pub mod elimination;
 pub mod equations;
-pub mod medians;
 
 ghost use mathlib.Core.Path.{_≡_};
-ghost use Rattle.math.specs.Answers.{refuse, said, solutionSaid};
+ghost use Rattle.math.specs.Answers.{refuse, solutionSaid};
 ghost use Rattle.math.specs.Equations.{solveAnswer, fitAnswer};
-ghost use Rattle.math.specs.Median.{medianAnswer, madSigmaAnswer, Left};
 
 // What a door of equations answers.
 pub enum Found {
@@ -24,14 +22,6 @@ pub enum Found {
 pub struct Solution {
     pub x: [f64; 8],
     pub found: Found,
-}
-
-// What a door of medians answers.
-pub enum Answer {
-    // the value
-    Number(f32),
-    // document 01's number of a refusal
-    Refused(u8),
 }
 
 // A refusal of equations.
@@ -89,37 +79,4 @@ pub fn least_squares(basis: &[f64], targets: &[f64], n: usize) -> Solution
     let mut m = [0f64; 64];
     let mut v = [0f64; 8];
     equations::fit(&mut m[..cells], &mut v[..n], basis, targets, n)
-}
-
-// The median of a list, whose values it leaves in some order.
-pub fn median(values: &mut [f32]) -> Answer
-    ensures { λ r. ⌜ (said r ≡ medianAnswer (now (values .entry)))
-        × Left r (now (values .entry)) (now (values .exit)) ⌝ }
-{
-    if 4096 < values.len() {
-        return Answer::Refused(9);
-    }
-    if !medians::all_fit(values) {
-        return Answer::Refused(10);
-    }
-    Answer::Number(medians::middle(values))
-}
-
-// The median distance from the median, times 1.4826.
-pub fn mad_sigma(values: &[f32]) -> Answer
-    ensures { λ r. ⌜ said r ≡ madSigmaAnswer (now (values .entry)) ⌝ }
-{
-    let n = values.len();
-    if 4096 < n {
-        return Answer::Refused(9);
-    }
-    if !medians::all_fit(values) {
-        return Answer::Refused(10);
-    }
-    if n <= 64 {
-        let mut few = [0f32; 64];
-        return Answer::Number(medians::spread(&mut few[..n], values));
-    }
-    let mut work = [0f32; 4096];
-    Answer::Number(medians::spread(&mut work[..n], values))
 }

@@ -1,4 +1,4 @@
-// Calls of math's doors. An f64 is two words, an f32 one.
+// Calls of the doors of equations and medians. An f64 is two words, an f32 one.
 //     300 solve n, cells, rows, a.., b..           0, 1, eight f64; 0, 0 for none; 9
 //     301 least_squares n, values, samples, ..     0, 1, eight f64; 0, 0 for none; 9
 //     302 median values..                          0, the median, the values after it; 9; 10
@@ -7,9 +7,9 @@
 ghost use mathlib.Core.Path.{_≡_};
 ghost use Prim.Native.Nat.{_≤_};
 ghost use lib.ListN.{length};
-use math::Answer;
 use math::Found;
 use math::Solution;
+use medians::Answer;
 use words::floats;
 
 pub fn answer(kind: u32, args: &[u32], out: &mut [u32]) -> usize {
@@ -104,7 +104,7 @@ fn median_of(args: &[u32], x: &mut [f32], out: &mut [u32]) -> usize
     requires { ⌜ length (now x) ≤ 5000 ⌝ }
 {
     floats::read32(args, x);
-    let m = math::median(x);
+    let m = medians::median(x);
     match m {
         Answer::Number(y) => listed(y, x, out),
         Answer::Refused(k) => words::one(out, k as u32),
@@ -134,7 +134,7 @@ fn mad_sigma(args: &[u32], out: &mut [u32]) -> usize {
 
 fn mad_sigma_of(args: &[u32], x: &mut [f32], out: &mut [u32]) -> usize {
     floats::read32(args, x);
-    let m = math::mad_sigma(x);
+    let m = medians::mad_sigma(x);
     match m {
         Answer::Number(y) => words::two(out, 0, floats::bits32(y)),
         Answer::Refused(k) => words::one(out, k as u32),

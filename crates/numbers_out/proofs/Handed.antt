@@ -15,10 +15,9 @@ use lib.Ieee.{Float}
 use Rattle.laws.specs.Lent.{Stored}
 use Rattle.laws.proofs.Stores.{stored-laid}
 use Rattle.hull.specs.Points.{many, laid}
-use Rattle.math.specs.Answers.{said}
-use Rattle.math.specs.Median.{SameValues, Left}
-use Rattle.math.specs.declared.Answer.{Answer}
-use Rattle.math.specs.declared.Answer.the-variants.{Number, Refused}
+use Rattle.medians.specs.Median.{SameValues, Left, said}
+use Rattle.medians.specs.declared.Answer.{Answer}
+use Rattle.medians.specs.declared.Answer.the-variants.{Number, Refused}
 use Rattle.transform.specs.declared.Transform.{Transform}
 use Rattle.numbers_out.specs.Maps.{pixelsOf}
 use Rattle.numbers_out.specs.Solutions.{refusedOr, noneNumber, givenOr, ValuesLeft}

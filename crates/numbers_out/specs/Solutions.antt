@@ -5,7 +5,7 @@ use mathlib.Core.List.{List, [], _∷_}
 use Prim.Native.Nat.{ℕ, zero, suc}
 use lib.Ieee.{Float}
 use Rattle.math.specs.Answers.{Said}
-use Rattle.math.specs.Median.{SameValues}
+use Rattle.medians.specs.Median.{SameValues}
 
 -- An out-parameter that takes the first value: as before where there is none.
 abbrev pub valueLeft : List Float → Float → Float

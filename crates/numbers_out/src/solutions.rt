@@ -1,10 +1,11 @@
 // The answers of the doors of equations and medians, crates `math` and `medians`.
 ghost use mathlib.Core.Path.{_≡_};
-ghost use Rattle.math.specs.Answers.{said, solutionSaid};
+ghost use Rattle.math.specs.Answers.{solutionSaid};
+ghost use Rattle.medians.specs.Median.{said};
 ghost use Rattle.numbers_out.specs.Solutions.{valueLeft, givenOr, refusedOr, solutionNumber};
-use math::Answer;
 use math::Found;
 use math::Solution;
+use medians::Answer;
 
 // A median or a spread.
 pub fn put_number(answer: Answer, to: &mut f32) -> u32

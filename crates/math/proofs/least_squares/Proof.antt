@@ -13,11 +13,10 @@ use Rattle.math.proofs.Doors.{
   not-many,
   whole-samples,
 }
-use Rattle.math.specs.Answers.{solutionSaid}
 use lib.ListN.{length}
 use native.Mathlib.Omega.{arith}
 use Prim.Native.Nat.{_≤_, _*_}
-use mathlib.Core.Path.{ap, _∙_}
+use mathlib.Core.Path.{_∙_}
 use borrow.Author.Needs.{needs}
 use Rattle.math.proofs.least_squares.Statement.{statement}
 use Rattle.math.proofs.least_squares.Tie as tie
@@ -121,7 +120,7 @@ returns-6 c =
     let h : s .n ≤ 8 = omega arith in
     let whole = whole-samples (length (s .basis .now)) (s .n) (length (s .targets .now)) l (e .before .before .if3 .left)
     (e .before .if4 .left) in
-    ap solutionSaid (w .fit .ensures) ∙ fit-pass (s .n) (s .basis .now) (s .targets .now) l h whole (e .if5 .left)
+    fit-pass (s .n) (s .basis .now) (s .targets .now) (w .fit .result) l h whole (e .if5 .left) (w .fit .ensures)
 
 pub least-squares-spec : {M : Type 1} → statement M
 least-squares-spec =

@@ -3,7 +3,6 @@ use Prim.Native.Nat.{ℕ, _≤_, _<_, _+_, _*_}
 use native.Mathlib.Omega.{arith}
 use lib.ListN.{length, length-set}
 use denote.Ref.{now}
-use borrow.Author.Needs.{needs}
 use Rattle.math.proofs.Eliminations.{row8, arranged-same, arranged-other}
 use borrow.Author.Needs.{needs}
 use Rattle.math.proofs.elimination.arrange.Statement.{statement}

@@ -1,7 +1,7 @@
 -- `math::elimination::clear_below` meets its contract. Assumes nothing.
 -- Invariant: eliminating column c from the rows that are left gives what eliminating it from all of them gave. Measure: rows left.
 use mathlib.Core.Path.{_≡_, sym, _∙_}
-use Prim.Native.Nat.{ℕ, _≤_, _<_, _-_, _+_, _*_}
+use Prim.Native.Nat.{_<_, _-_, _+_, _*_}
 use native.Mathlib.Omega.{arith}
 use lib.ListN.{length}
 use borrow.Author.Needs.{needs}
