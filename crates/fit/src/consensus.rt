@@ -8,8 +8,8 @@ ghost use Prim.Native.Nat.{_+_, _/_, _%_, _<_, _≤_};
 ghost use lib.ListN.{length};
 ghost use Rattle.fit.specs.Select.{KeptIn};
 ghost use Rattle.laws.specs.Lent.{UntouchedPast};
-ghost use Rattle.fit.specs.Consensus.{searchNear, searchOf, oneIf, agreeOf, trialAt, trialOf};
-ghost use Rattle.fit.specs.Consensus.{trialsOf, consensusOf, edgeLine};
+ghost use Rattle.fit.specs.Consensus.{searchNear, searchOf, oneIf, agreeOf, trialAt};
+ghost use Rattle.fit.specs.Consensus.{underCut, ShortUnder, trialsOf, consensusOf, edgeLine};
 
 // The best trial line so far: how many points agree with it, where 0 is no line, a point of it in
 // pixels, and its unit direction.
@@ -86,12 +86,44 @@ fn pick(a: usize, n: usize) -> usize
     a % n
 }
 
+// The place that is some places further, round n places.
+fn further(a: usize, step: usize, n: usize) -> usize
+    requires { ⌜ (a < n) × (step < n) × (n ≤ 16384) ⌝ }
+    ensures { λ r. ⌜ (r ≡ (a + step) % n) × (r < n) ⌝ }
+{
+    let b = a + step;
+    if b < n {
+        return b;
+    }
+    b - n
+}
+
+// A square under which the root is under a third of the edge, or a NaN where the root of the one
+// that is tried is not.
+fn cut_of(len: f32) -> f32
+    ensures { λ r. ⌜ ShortUnder len r ⌝ }
+{
+    let third = len / 3.0;
+    let cut = third * third * 0.9990234375;
+    if ieee::root(cut) < third {
+        return cut;
+    }
+    0.0 / 0.0
+}
+
+// Whether a square is above 0 and under a cut.
+fn under_cut(d: f32, cut: f32) -> bool
+    ensures { λ r. ⌜ r ≡ underCut d cut ⌝ }
+{
+    if 0.0 < d { d < cut } else { false }
+}
+
 // The line through points i and j, where it spans a third of the edge and more points agree with
-// it than with the best so far.
-fn try_pair(s: &[f32], len: f32, i: usize, j: usize, best: Trial) -> Trial
+// it than with the best so far. Most that are too short are known by the cut, without a root.
+fn try_pair(s: &[f32], len: f32, cut: f32, i: usize, j: usize, best: Trial) -> Trial
     requires { ⌜ length (now s) ≤ 32768 ⌝ }
-    requires { ⌜ i < length (now s) / 2 ⌝ }
-    requires { ⌜ j < length (now s) / 2 ⌝ }
+    requires { ⌜ ShortUnder len cut ⌝ }
+    requires { ⌜ (i < length (now s) / 2) × (j < length (now s) / 2) ⌝ }
     requires { ⌜ best .count ≤ 16384 ⌝ }
     ensures { λ r. ⌜ (r ≡ trialAt (now (s .entry)) len best i j) × (r .count ≤ 16384) ⌝ }
 {
@@ -99,7 +131,11 @@ fn try_pair(s: &[f32], len: f32, i: usize, j: usize, best: Trial) -> Trial
     let py = s[2 * i + 1];
     let lx = s[2 * j] - px;
     let ly = s[2 * j + 1] - py;
-    let l = ieee::root(lx * lx + ly * ly);
+    let d = lx * lx + ly * ly;
+    if under_cut(d, cut) {
+        return best;
+    }
+    let l = ieee::root(d);
     if l < len / 3.0 {
         return best;
     }
@@ -116,26 +152,16 @@ fn try_pair(s: &[f32], len: f32, i: usize, j: usize, best: Trial) -> Trial
     best
 }
 
-// Trial k of an edge.
-fn try_line(s: &[f32], len: f32, k: usize, best: Trial) -> Trial
-    requires { ⌜ 2 ≤ length (now s) ⌝ }
-    requires { ⌜ length (now s) ≤ 32768 ⌝ }
-    requires { ⌜ k < 96 ⌝ }
-    requires { ⌜ best .count ≤ 16384 ⌝ }
-    ensures { λ r. ⌜ (r ≡ trialOf (now (s .entry)) len k best) × (r .count ≤ 16384) ⌝ }
-{
-    let n = s.len() / 2;
-    let i = pick(k * 7919 + 13, n);
-    let j = pick(k * 104729 + n / 2, n);
-    try_pair(s, len, i, j, best)
-}
-
-// The best of 96 trials.
+// The best of 96 trials. The places i and j of a trial are two strides further than the last ones.
 fn trials(s: &[f32], len: f32) -> Trial
     requires { ⌜ 2 ≤ length (now s) ⌝ }
     requires { ⌜ length (now s) ≤ 32768 ⌝ }
     ensures { λ r. ⌜ (r ≡ trialsOf (now (s .entry)) len) × (r .count ≤ 16384) ⌝ }
 {
+    let n = s.len() / 2;
+    let cut = cut_of(len);
+    let first = pick(7919, n);
+    let second = pick(104729, n);
     let mut best = Trial {
         count: 0,
         x: 0.0,
@@ -143,9 +169,13 @@ fn trials(s: &[f32], len: f32) -> Trial
         u: 0.0,
         v: 0.0,
     };
+    let mut i = pick(13, n);
+    let mut j = pick(n / 2, n);
     let mut k = 0usize;
     while k < 96 {
-        best = try_line(s, len, k, best);
+        best = try_pair(s, len, cut, i, j, best);
+        i = further(i, first, n);
+        j = further(j, second, n);
         k += 1;
     }
     best

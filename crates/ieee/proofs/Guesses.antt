@@ -1,7 +1,6 @@
 -- A guessed root that is looked at. Assumes nothing.
 --   near-of        r is the whole number nearest to the root of m where m lies between the squares of r − 1/2 and r + 1/2
 --   number-of      what is at or above a number is no NaN
---   whole64        a whole number below 2^48 is an f64
 use mathlib.Core.Path.{_≡_, sym, ap, _∙_}
 use mathlib.Core.Logic.{⊎-elim}
 use mathlib.Core.Bool.{Bool, true, false, not, cond, false≢true}
@@ -9,9 +8,8 @@ use Prim.Native.Nat.{ℕ, zero, suc, _+_, _*_, _≤_, _<_}
 use native.Mathlib.Nat.{mul-le-mul}
 use native.Mathlib.Omega.{arith}
 use native.Mathlib.Decide.{decLt}
-use lib.Dec.{T, ltb, le→leb}
-use lib.IntN.{pos}
-use lib.Ieee.{Float, nan, inf, fin, binary64, lt, eq, le, isNan, inFloat}
+use lib.Dec.{T, ltb}
+use lib.Ieee.{Float, nan, inf, fin, lt, eq, le, isNan}
 use borrow.Author.Tests.{lt-ltb, le-ltb}
 use Rattle.ieee.specs.Root.{isqrt, nearRoot}
 use Rattle.ieee.proofs.Roots.{Root, isqrt-is}
@@ -74,7 +72,3 @@ number-of (inf s) nan h = absurd (false≢true h)
 number-of (fin s m e) nan h = absurd (false≢true h)
 number-of x (inf s) h = tt
 number-of x (fin s m e) h = tt
-
-pub whole64 : (m : ℕ) → m < 281474976710656 → T (inFloat binary64 (pos m))
-unfolding inFloat
-whole64 m h = le→leb m 9007199254740992 (omega arith)

@@ -160,6 +160,16 @@ ne-nan (fin false m e) = ap not (sym (both (eqb (m * up e * down e) (m * up e * 
     both true t = refl
     both false t = absurd t
 
+pub lt-numbers : (x y : Float) → lt x y ≡ true → (isNan x ≡ false) × (isNan y ≡ false)
+unfolding lt isNan
+lt-numbers nan y h = absurd (false≢true h)
+lt-numbers (inf s) nan h = absurd (false≢true h)
+lt-numbers (inf s) (inf t) h = (refl, refl)
+lt-numbers (inf s) (fin t n d) h = (refl, refl)
+lt-numbers (fin s m e) nan h = absurd (false≢true h)
+lt-numbers (fin s m e) (inf t) h = (refl, refl)
+lt-numbers (fin s m e) (fin t n d) h = (refl, refl)
+
 -- ---- `max` and `before`, by the tests
 abbrev pub maxBy : Float → Float → Bool → Bool → Bool → Bool → Bool → Float
 maxBy x y a b c d e = cond a y (cond b x (cond c y (cond d x (cond e y x))))

@@ -4,6 +4,7 @@ pub mod Roots
 pub mod Guesses
 pub mod Grid
 pub mod RootNearest
+pub mod RootOrder
 pub mod Narrows
 pub mod NarrowSteps
 pub mod Usual

@@ -127,21 +127,19 @@ pub fn max32(x: f32, y: f32) -> f32
 pub fn before32(x: f32, y: f32) -> bool
     ensures { λ r. ⌜ r ≡ before x y ⌝ }
 {
+    if x < y {
+        return true;
+    }
+    if y < x {
+        return false;
+    }
     if x != x {
         return false;
     }
     if y != y {
         return true;
     }
-    if x < y {
-        true
-    } else if y < x {
-        false
-    } else if negative(x) {
-        !negative(y)
-    } else {
-        false
-    }
+    if negative(x) { !negative(y) } else { false }
 }
 
 // x cut toward zero to a u32: 0 from below and for a NaN, the greatest from above.

@@ -47,30 +47,45 @@ fn near_root(m: u64) -> u64
     if r * r + r < m { r + 1 } else { r }
 }
 
-// A whole number near the root of m, where m is from 2^46 up to 2^48: a parabola within 0.6 %, then
-// two of Newton's steps, each of which squares what is left. Nothing is promised of it;
-// `quick_root` looks whether it is the nearest.
-fn guess(m: u64) -> u64
-    requires { ⌜ m < 281474976710656 ⌝ }
+// 2^23 where a pattern's exponent is odd, else 2^23 times the root of 2.
+fn scale(b: u32) -> f64 {
+    if b / 0x80_0000 % 2 == 1 {
+        return 8388608.0;
+    }
+    11863283.203031445
+}
+
+// Half the root of x / 2^23, where x is from 2^23 up to 2^24, within 0.00001 of it.
+fn half_root(x: f64) -> f64 {
+    let x2 = x * x;
+    let high = (7.5023863e-23 * x - 2.2843487e-15) - x2 * 1.084098e-30;
+    (0.16197692 + x * 5.4819099e-8) + x2 * high
+}
+
+// A whole number near the root that `root_bits` looks for, of a pattern b from 2^23 on: a
+// polynomial of b's digits, then one of Newton's steps, which squares what is left, and the last
+// digits of the sum with 2^52. Nothing is promised of it; `quick_root` looks whether it is the
+// nearest.
+fn guess(b: u32) -> u64
     ensures { λ r. ⌜ r < 33554432 ⌝ }
 {
-    let x = m as f64;
-    let y = 4349951.5 + x * (6.2705e-8 - x * 6.6984e-23);
-    let z = 0.5 * (y + x / y);
-    let w = 0.5 * (z + x / z) + 4503599627370496.0;
+    let x = (b % 0x80_0000 + 0x80_0000) as f64;
+    let s = scale(b);
+    let y = half_root(x);
+    let w = s * y + s * x / 33554432.0 / y + 4503599627370496.0;
     if w >= 1.0 {
         return f64::to_bits(w) % 0x200_0000;
     }
     0
 }
 
-// The whole number nearest to the root of m: the guess where m lies between the squares of the
-// halves beside it, else by bisection.
-fn quick_root(m: u64) -> u64
+// The whole number nearest to the root of m: the guess from a pattern b where m lies between the
+// squares of the halves beside it, else by bisection.
+fn quick_root(m: u64, b: u32) -> u64
     requires { ⌜ m < 281474976710656 ⌝ }
     ensures { λ r. ⌜ r ≡ nearRoot m ⌝ }
 {
-    let r = guess(m);
+    let r = guess(b);
     if r * r < m + r {
         if m <= r * r + r {
             return r;
@@ -96,5 +111,5 @@ pub fn root_bits(b: u32) -> u32
         n = n * 4;
         k = k - 1;
     }
-    k * 0x80_0000 + (quick_root(n) as u32)
+    k * 0x80_0000 + (quick_root(n, b) as u32)
 }

@@ -1,6 +1,7 @@
--- `fit::consensus::try_pair` meets its contract: a trial that is too short, better, or not better. Assumes nothing.
+-- `fit::consensus::try_pair` meets its contract: a trial under the cut, too short, better, or not better. Assumes nothing.
+use mathlib.Core.Path.{sym, _∙_}
 use borrow.Author.Needs.{needs}
-use Rattle.fit.proofs.Trials.{short, more, no-more, trial-by}
+use Rattle.fit.proofs.Trials.{short, more, no-more, trial-by, cut-trial}
 use Rattle.fit.proofs.consensus.try_pair.Statement.{statement}
 use Rattle.fit.proofs.consensus.try_pair.Tie as tie
 
@@ -46,26 +47,36 @@ mul-ly-2 c = search needs
 shared-slice-read-ly : tie.Need-shared-slice-read-ly
 shared-slice-read-ly c = search needs
 
+under-cut-requires : tie.Need-under-cut-requires
+under-cut-requires c κs = search needs
+
+returns : tie.Need-returns
+returns c =
+    let begin = c .before .before .before .before .before .before .before in (
+      cut-trial _ _ _ _ _ _ (begin .pre .1 .0) (sym (c .before .under-cut .ensures) ∙ c .if1 .taken),
+      search needs,
+    )
+
 root-requires : tie.Need-root-requires
 root-requires c κs = search needs
 
-returns : tie.Need-returns
-returns c = (trial-by _ _ _ _ _ _ _ (c .before .root .ensures) (short _ _ _ _ _ _ _ _ (c .if1 .taken)), search needs)
+returns-2 : tie.Need-returns-2
+returns-2 c = (trial-by _ _ _ _ _ _ _ (c .before .root .ensures) (short _ _ _ _ _ _ _ _ (c .if2 .taken)), search needs)
 
 agree-requires : tie.Need-agree-requires
 agree-requires c κs = search needs
 
-returns-2 : tie.Need-returns-2
-returns-2 c = (
-  trial-by _ _ _ _ _ _ _ (c .before .before .before .before .root .ensures)
-      (more _ _ _ _ _ _ _ _ _ (c .before .before .before .if1 .left) (c .before .before .agree .ensures .0) (c .if2 .taken)),
-  search needs,
-)
-
 returns-3 : tie.Need-returns-3
 returns-3 c = (
   trial-by _ _ _ _ _ _ _ (c .before .before .before .before .root .ensures)
-      (no-more _ _ _ _ _ _ _ _ _ (c .before .before .before .if1 .left) (c .before .before .agree .ensures .0) (c .if2 .left)),
+      (more _ _ _ _ _ _ _ _ _ (c .before .before .before .if2 .left) (c .before .before .agree .ensures .0) (c .if3 .taken)),
+  search needs,
+)
+
+returns-4 : tie.Need-returns-4
+returns-4 c = (
+  trial-by _ _ _ _ _ _ _ (c .before .before .before .before .root .ensures)
+      (no-more _ _ _ _ _ _ _ _ _ (c .before .before .before .if2 .left) (c .before .before .agree .ensures .0) (c .if3 .left)),
   search needs,
 )
 
@@ -87,8 +98,10 @@ try-pair-spec =
     add-ly
     mul-ly-2
     shared-slice-read-ly
-    root-requires
+    under-cut-requires
     returns
-    agree-requires
+    root-requires
     returns-2
-    returns-3)
+    agree-requires
+    returns-3
+    returns-4)
