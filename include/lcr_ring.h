@@ -2,9 +2,9 @@
  *
  * Link with libexports.a, which `rt staticlib exports` writes to target/staticlib/. Every function is proved
  * to stay within the memory that it is handed and to end, and the door that it calls is proved to answer what it
- * promises (docs/ARCHITECTURE.md says where). That the function hands this on as said below is proved too, but for
- * lcr_attempt, lcr_apply_all, lcr_solve, lcr_least_squares, lcr_median and lcr_mad_sigma, where it is compared with
- * the Rust (docs/COMPARISON.md). What a function is handed is the caller's affair, so read this page once.
+ * promises (docs/ARCHITECTURE.md says where). That the function hands this on as said below is proved too: its result,
+ * every out-parameter, and what is left of every list. What a function is handed is the caller's affair, so read this
+ * page once.
  *
  * RESULTS. Every function answers one of these:
  *   LCR_OK (0)      the call is accepted; every out-parameter is written;

@@ -24,16 +24,10 @@
 #include <unistd.h>
 
 #include "lcr_ring.h"
+#include "random.h"
 
 enum { AREA = 1 << 20, LISTS = 12, ANY = 1000 };
 
-static uint64_t state;
-static uint64_t next(void) {
-    uint64_t z = (state += 0x9E3779B97F4A7C15u);
-    z = (z ^ (z >> 30)) * 0xBF58476D1CE4E5B9u;
-    z = (z ^ (z >> 27)) * 0x94D049BB133111EBu;
-    return z ^ (z >> 31);
-}
 static size_t below(size_t n) { return (size_t)(next() % (n ? n : 1)); }
 static int odds(int in) { return below((size_t)in) == 0; }
 

@@ -15,14 +15,8 @@
 #include <string.h>
 
 #include "lcr_ring.h"
+#include "random.h"
 
-static uint64_t state;
-static uint64_t next(void) {
-    uint64_t z = (state += 0x9E3779B97F4A7C15u);
-    z = (z ^ (z >> 30)) * 0xBF58476D1CE4E5B9u;
-    z = (z ^ (z >> 27)) * 0x94D049BB133111EBu;
-    return z ^ (z >> 31);
-}
 static int below(int n) { return (int)(next() % (uint64_t)(n < 1 ? 1 : n)); }
 static void *room(size_t n) {
     void *p = calloc(n ? n : 1, 1);
