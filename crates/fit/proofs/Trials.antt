@@ -25,8 +25,8 @@ use Rattle.ieee.proofs.RootOrder.{root-under}
 use Rattle.ieee.proofs.Tests.{lt-no-nan-r}
 use Rattle.fit.specs.F32.{_⊕_, _⊖_, _⊗_, _⊘_, 1·5, 3f, xOf, yOf}
 use Rattle.fit.specs.Select.{offOf}
-use Rattle.fit.specs.Consensus.{oneIf, agreeOn, agreeOf, better, trialAt, trialOf, trialsOn, underCut}
-use Rattle.fit.specs.Consensus.{ShortUnder}
+use Rattle.fit.specs.Consensus.{oneIf, agreeOn, agreeOf, better, trialAt, trialOf, trialsOn}
+use Rattle.fit.specs.Cut.{underCut, ShortUnder}
 use Rattle.fit.specs.declared.consensus.Trial.{Trial}
 
 -- ---- counts

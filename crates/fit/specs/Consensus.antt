@@ -1,11 +1,10 @@
 -- A quad from four edges, each the line that most points agree with, as document 01 has it under "Line, crossing, lens" and ring.rs in
 -- `edge_quad`. Definitions only. Assumes nothing.
-use mathlib.Core.Path.{_≡_}
 use Prim.Native.Nat.{ℕ, zero, suc, _+_, _*_, _/_, _%_}
-use mathlib.Core.Bool.{Bool, true, cond, _&&_}
+use mathlib.Core.Bool.{Bool, cond, _&&_}
 use mathlib.Core.List.{List}
-use lib.Dec.{T, eqb, ltb}
-use lib.Ieee.{Float, binary32, lt, le, neg, fits}
+use lib.Dec.{eqb, ltb}
+use lib.Ieee.{Float, binary32, lt, le, neg}
 use Rattle.ieee.specs.Root.{sqrt}
 use Rattle.ieee.specs.Constants.{0·05, 0·15, 0·35, 1·05}
 use Rattle.hull.specs.Points.{0f, many}
@@ -63,14 +62,6 @@ trialAt s len best i j =
     let lx = xOf s j ⊖ xOf s i in
     let ly = yOf s j ⊖ yOf s i in
     better s len best (xOf s i) (yOf s i) lx ly (sqrt binary32 (lx ⊗ lx ⊕ ly ⊗ ly))
-
--- A square under c and above 0.
-abbrev pub underCut : Float → Float → Bool
-underCut d c = lt d c && lt 0f d
-
--- Squares under c and above 0 are of lengths under a third of the edge.
-unfoldable pub ShortUnder : Float → Float → Type 0
-ShortUnder len c = (d : Float) → T (fits binary32 d) → underCut d c ≡ true → lt (sqrt binary32 d) (len ⊘ 3f) ≡ true
 
 -- The two points of trial k among n: from two strides, so that every run has the same trials.
 abbrev pub firstAt : ℕ → ℕ → ℕ

@@ -9,7 +9,8 @@ ghost use lib.ListN.{length};
 ghost use Rattle.fit.specs.Select.{KeptIn};
 ghost use Rattle.laws.specs.Lent.{UntouchedPast};
 ghost use Rattle.fit.specs.Consensus.{searchNear, searchOf, oneIf, agreeOf, trialAt};
-ghost use Rattle.fit.specs.Consensus.{underCut, ShortUnder, trialsOf, consensusOf, edgeLine};
+ghost use Rattle.fit.specs.Consensus.{trialsOf, consensusOf, edgeLine};
+ghost use Rattle.fit.specs.Cut.{underCut, ShortUnder};
 
 // The best trial line so far: how many points agree with it, where 0 is no line, a point of it in
 // pixels, and its unit direction.
