@@ -100,7 +100,8 @@ uint32_t lcr_picture(const uint8_t *gray, size_t gray_len, size_t width, size_t 
 /* ---- Outlines, hulls and quads -------------------------------------------------------------------------- */
 
 /* The outline door: boundary points of a box. Per row of the box, then per column: the start of the first and the
- * end of the last run of 4 or more member pixels, at the pixels' centres across (+ 0.5) and edges along.
+ * end of the last run of 4 or more member pixels, at the pixels' centres across (+ 0.5) and edges along. A member is an
+ * ink pixel in a cell whose label is `want`, or any but 0 where `want` is 0.
  *
  *   gray, width, height     as lcr_picture has them
  *   levels     at least LCR_LEVEL_CELLS bytes, as lcr_picture left them
@@ -129,7 +130,8 @@ uint32_t lcr_convex_hull(const float *points, size_t points_len, float *out, siz
 /* The quad of a hull: the farthest pair of vertices and the farthest vertex on either side of it.
  *
  *   vertices   vertices_len numbers, x and y by turns, as lcr_convex_hull lists them
- *   quad       out: x and y of four corners, clockwise
+ *   quad       out: x and y of four corners: clockwise for vertices k/2 with 0 <= k <= 2,048; in other lists rounded
+ *              products may tell the wrong order
  *
  * LCR_NONE where there are fewer than four vertices or a side has none. Takes time in proportion to the square of
  * the vertices. No refusal. */
@@ -144,9 +146,11 @@ uint32_t lcr_quad(const float *vertices, size_t vertices_len, float quad[8]);
  *              within -32,768 .. 32,768
  *   most       the greatest version to try, 1 to 64
  *   straight, cand, buf     working lists, each at least points_len numbers
- *   hull       out: vertices of the points' hull
+ *   hull       out: how many vertices the hull has that was searched: of the points, or of the points straightened
+ *              where a lens is found; as many as there are points where its coefficient is a NaN
  *   found      out: whether there is a quad. Where there is none, quad, scores, fix and fallback are all 0
- *   quad       out: x and y of the searched quad's four corners, in pixels, clockwise
+ *   quad       out: x and y of the searched quad's four corners, in order as lcr_quad has them; in pixels, straightened
+ *              where a lens is found. A place of the picture itself comes from lcr_apply on the fix
  *   tried      out: how many versions have a score, 0 to 64
  *   scores     out: four numbers of each score in version order, 0 past the last: version; agreement, the fraction of
  *              positions that agree, 0 to 1; corner, 0 to 3, the corner of the quad where position 0 is; mirrored, 1
@@ -173,14 +177,16 @@ uint32_t lcr_version(uint8_t version, uint16_t *side, size_t *positions);
  * In the next three x and y are within -32,768 .. 32,767. Refusals in order: LCR_VERSION, LCR_CELL.
  *
  * lcr_shell             depth: out, how far outside the symbol the cell lies, in cells; 0 within it
- * lcr_edge_and_offset   edge: out, 0 top, 1 right, 2 bottom, 3 left; offset: out, the coordinate along it, in cells
+ * lcr_edge_and_offset   edge: out, 0 top, 1 right, 2 bottom, 3 left, the one that the cell lies farthest out on, where top
+ *                       and bottom have the corners; offset: out, the coordinate along it, in cells. A cell within the
+ *                       symbol gets some edge too: lcr_shell tells it by depth 0
  * lcr_position          position: out, 0 to positions - 1; LCR_NONE where the cell is not of the ring */
 uint32_t lcr_shell(uint8_t version, int32_t x, int32_t y, size_t *depth);
 uint32_t lcr_edge_and_offset(uint8_t version, int32_t x, int32_t y, size_t *edge, int32_t *offset);
 uint32_t lcr_position(uint8_t version, int32_t x, int32_t y, size_t *position);
 
 /* The outer cell of a position, and the cell one step inward from it. p: any number, reduced modulo the positions.
- *   x, y: out, the cell, -3 to side + 2.   Refusal: LCR_VERSION. */
+ *   x, y: out, the cell: the outer one -3 to side + 2, the inner one -2 to side + 1.   Refusal: LCR_VERSION. */
 uint32_t lcr_outer_cell(uint8_t version, size_t p, int32_t *x, int32_t *y);
 uint32_t lcr_inner_cell(uint8_t version, size_t p, int32_t *x, int32_t *y);
 
@@ -214,8 +220,9 @@ uint32_t lcr_correlate(uint8_t version, const bool *marks, size_t marks_len, flo
 /* ---- Transforms ----------------------------------------------------------------------------------------- */
 
 /* A transform t is eleven numbers, coefficients m0 to m7 and a lens cx, cy, kappa. The pixel of the place (u, v) in
- * module space is (m0 u + m1 v + m2, m3 u + m4 v + m5) / (m6 u + m7 v + 1), in pixels, then bent about the
- * centre (cx, cy), in pixels, by kappa, per square pixel; a kappa of 0 is no lens. All floats are taken.
+ * module space is (m0 u + m1 v + m2, m3 u + m4 v + m5) / (m6 u + m7 v + 1), in pixels, where a divisor of a magnitude
+ * below 1e-9 becomes 1e-9, then bent about the centre (cx, cy), in pixels, by kappa, per square pixel; a kappa of 0 is no
+ * lens. All floats are taken.
  *
  * lcr_from_quad     t: out, the transform that takes the corners src to dst, each x and y of four corners, without a
  *                   lens; LCR_NONE where there is none
@@ -242,7 +249,7 @@ uint32_t lcr_apply_all(const double t[11], const float *uv, size_t uv_len, float
  * LCR_NONE where a pivot's magnitude is below 1e-12. Refusal: LCR_SIZE. */
 uint32_t lcr_solve(const double *a, size_t a_len, const double *b, size_t b_len, size_t n, double x[8]);
 
-/* The least squares fit of n coefficients.
+/* The least squares fit of n coefficients, by the normal equations with 1e-9 added to each diagonal entry.
  *
  *   basis      exactly n numbers of each sample, one sample after the other
  *   targets    one number of each sample, any number of samples

@@ -56,7 +56,8 @@ pub struct Ring {
     pub map: [f64; 11],
 }
 
-/// An attempt's trace: vertices of the hull, the quad, each version's (version, agreement, corner, mirrored), the ring,
+/// An attempt's trace: vertices of the hull that was searched and its quad, of straightened points where a lens is found,
+/// each version's (version, agreement, corner, mirrored), the ring,
 /// and the ring under the relaxed rule, which is looked for only where there is no `fix`.
 #[derive(Debug, Clone, PartialEq)]
 pub struct Trace {

@@ -1,7 +1,7 @@
 //! regions FILE [MOST]: the regions of a grey picture (PGM, P5, one byte a pixel), by the safe wrapper `lcr_ring`.
 //!
 //! Prints what examples/c/regions.c prints; with MOST, a greatest version, also of each kept region how many boundary
-//! points and hull vertices it has, and the ring that an attempt locates there: version, agreement (the f32's bits in
+//! points and vertices of the searched hull it has, and the ring that an attempt locates there: version, agreement (the f32's bits in
 //! hex), corner, mirrored. Ends with 1 where the file or the picture is refused.
 mod lcr_ring;
 

@@ -133,13 +133,25 @@ fn listing_words(args: &[u32]) -> Vec<u32> {
     [vec![0, len as u32], packed(&text[..len])].concat()
 }
 
+/// Whether many places at once have the pixels that they have one by one: two places and an odd number, which is not
+/// read; places of the list past the pixels stay untouched.
+fn alike(t: &[f64; 11], u: f32, v: f32) -> bool {
+    let (a, b) = (apply(t, u, v), apply(t, v, u));
+    let mut xy = [f32::MAX; 6];
+    let refused = apply_all(t, &[u, v, v, u, u], &mut xy);
+    let same = |x: f32, y: f32| w32(x) == w32(y);
+    let pixels = [a.0, a.1, b.0, b.1, f32::MAX, f32::MAX];
+    let short = apply_all(t, &[u, v], &mut [0.0]);
+    refused == 0 && short == 3 && xy.iter().zip(pixels).all(|(&x, y)| same(x, y))
+}
+
 fn transform_words(kind: u32, args: &[u32]) -> Vec<u32> {
     let mut w = Words(args);
     if kind == 10401 {
         let t: [f64; 11] = w.doubles(11).unwrap().try_into().unwrap();
         let [u, v] = w.singles().unwrap();
         let (x, y) = apply(&t, u, v);
-        return vec![0, w32(x), w32(y)];
+        return if alike(&t, u, v) { vec![0, w32(x), w32(y)] } else { vec![u32::MAX] };
     }
     let Some(mut t) = from_quad(&w.singles().unwrap(), &w.singles().unwrap()) else { return vec![0, 0] };
     if kind == 10400 {

@@ -56,7 +56,7 @@ pub fn generate(kind: u64, w: u32, h: u32, r: &mut Rng) -> Pic {
                 p.noise(r, amp);
             }
         }
-        // a ring per W3
+        // a drawn ring
         4 => {
             let v = r.range(1, 6) as u8;
             let fit = (w.min(h) / (17 + 4 * v as u32 + 10)).min(16);

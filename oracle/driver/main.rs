@@ -64,7 +64,12 @@ impl Said {
         self.0.get(i).map_or("", |s| s.as_str())
     }
     fn num(&self, i: usize, or: u64) -> u64 {
-        self.0.get(i).and_then(|s| s.parse().ok()).unwrap_or(or)
+        self.0.get(i).map_or(or, |s| {
+            s.parse().unwrap_or_else(|_| {
+                eprintln!("{s}: no number\n{USAGE}");
+                std::process::exit(2)
+            })
+        })
     }
 }
 
@@ -109,7 +114,7 @@ fn main() {
         "picks" => ways::picks(),
         "calc" => calc::run(),
         "fuzz" => fuzz::run(a.num(2, 1), a.num(3, 10000)),
-        "vectors" => AREAS.iter().filter(|x| x.name == a.word(2)).for_each(|x| calls::vectors(x)),
+        "vectors" if AREAS.iter().any(|x| x.name == a.word(2)) => AREAS.iter().filter(|x| x.name == a.word(2)).for_each(|x| calls::vectors(x)),
         _ if with_finder(&a) => {}
         _ => {
             eprintln!("{USAGE}");

@@ -3,7 +3,7 @@ use crate::pic::{Pic, Rng};
 use lcr_core::border;
 use lcr_decode::transform::Transform;
 
-/// W3: the ring of `v` at `pitch`, corner `r`, reversed or not, into a picture of `w` by `h`.
+/// The ring of `v` at `pitch`, corner `r`, reversed or not, into a picture of `w` by `h`.
 pub fn draw_ring(v: u8, pitch: u32, r: u32, rev: bool, w: u32, h: u32) -> Pic {
     let side = 17 + 4 * v as u16;
     let s = side as i64 + 6;

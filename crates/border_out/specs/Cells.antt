@@ -19,75 +19,81 @@ use Rattle.lcr_core.specs.declared.doors.MarkAnswer.{MarkAnswer}
 use Rattle.lcr_core.specs.declared.doors.MarkAnswer.the-variants as light
 
 -- ---- a version's side and positions
+-- The result: 0 where the version is known.
+abbrev pub versionResult : VersionAnswer → ℕ
+versionResult (version.Known v) = 0
+versionResult (version.Refused n) = n
 
-abbrev pub versionNumber : VersionAnswer → ℕ
-versionNumber (version.Known v) = 0
-versionNumber (version.Refused n) = n
+-- The out-parameters after the call: the side, and the positions round the ring.
+abbrev pub sideAfter : VersionAnswer → ℕ → ℕ
+sideAfter (version.Known v) old = sideOf (v .0)
+sideAfter (version.Refused n) old = old
 
-abbrev pub sideLeft : VersionAnswer → ℕ → ℕ
-sideLeft (version.Known v) old = sideOf (v .0)
-sideLeft (version.Refused n) old = old
-
-abbrev pub positionsLeft : VersionAnswer → ℕ → ℕ
-positionsLeft (version.Known v) old = positionsOf (v .0)
-positionsLeft (version.Refused n) old = old
+abbrev pub positionsAfter : VersionAnswer → ℕ → ℕ
+positionsAfter (version.Known v) old = positionsOf (v .0)
+positionsAfter (version.Refused n) old = old
 
 -- ---- how far outside a cell lies
+-- The result: 0 where there is a depth.
+abbrev pub depthResult : ShellAnswer → ℕ
+depthResult (shell.Depth d) = 0
+depthResult (shell.Refused n) = n
 
-abbrev pub depthNumber : ShellAnswer → ℕ
-depthNumber (shell.Depth d) = 0
-depthNumber (shell.Refused n) = n
-
-abbrev pub depthLeft : ShellAnswer → ℕ → ℕ
-depthLeft (shell.Depth d) old = d
-depthLeft (shell.Refused n) old = old
+-- The out-parameter after the call: the depth.
+abbrev pub depthAfter : ShellAnswer → ℕ → ℕ
+depthAfter (shell.Depth d) old = d
+depthAfter (shell.Refused n) old = old
 
 -- ---- a cell's edge, and its coordinate along it
+-- The result: 0 where there is an edge.
+abbrev pub edgeResult : EdgeAnswer → ℕ
+edgeResult (edge.Along e o) = 0
+edgeResult (edge.Refused n) = n
 
-abbrev pub edgeNumber : EdgeAnswer → ℕ
-edgeNumber (edge.Along e o) = 0
-edgeNumber (edge.Refused n) = n
+-- The out-parameters after the call: the edge, and the coordinate along it.
+abbrev pub edgeAfter : EdgeAnswer → ℕ → ℕ
+edgeAfter (edge.Along e o) old = e
+edgeAfter (edge.Refused n) old = old
 
-abbrev pub edgeLeft : EdgeAnswer → ℕ → ℕ
-edgeLeft (edge.Along e o) old = e
-edgeLeft (edge.Refused n) old = old
-
-abbrev pub offsetLeft : EdgeAnswer → ℤ → ℤ
-offsetLeft (edge.Along e o) old = o
-offsetLeft (edge.Refused n) old = old
+abbrev pub offsetAfter : EdgeAnswer → ℤ → ℤ
+offsetAfter (edge.Along e o) old = o
+offsetAfter (edge.Refused n) old = old
 
 -- ---- a cell's position
+-- The result: 0 where the cell has a position, 255 where it is not of the ring.
+abbrev pub placeResult : PlaceAnswer → ℕ
+placeResult (at.At p) = 0
+placeResult at.Outside = 255
+placeResult (at.Refused n) = n
 
-abbrev pub placeNumber : PlaceAnswer → ℕ
-placeNumber (at.At p) = 0
-placeNumber at.Outside = 255
-placeNumber (at.Refused n) = n
-
-abbrev pub placeLeft : PlaceAnswer → ℕ → ℕ
-placeLeft (at.At p) old = p
-placeLeft at.Outside old = old
-placeLeft (at.Refused n) old = old
+-- The out-parameter after the call: the position.
+abbrev pub placeAfter : PlaceAnswer → ℕ → ℕ
+placeAfter (at.At p) old = p
+placeAfter at.Outside old = old
+placeAfter (at.Refused n) old = old
 
 -- ---- a position's cell
+-- The result: 0 where there is a cell.
+abbrev pub cellResult : CellAnswer → ℕ
+cellResult (cell.Found c) = 0
+cellResult (cell.Refused n) = n
 
-abbrev pub cellNumber : CellAnswer → ℕ
-cellNumber (cell.Found c) = 0
-cellNumber (cell.Refused n) = n
+-- The out-parameters after the call: the cell's x, and its y.
+abbrev pub xAfter : CellAnswer → ℤ → ℤ
+xAfter (cell.Found c) old = c .x
+xAfter (cell.Refused n) old = old
 
-abbrev pub xLeft : CellAnswer → ℤ → ℤ
-xLeft (cell.Found c) old = c .x
-xLeft (cell.Refused n) old = old
-
-abbrev pub yLeft : CellAnswer → ℤ → ℤ
-yLeft (cell.Found c) old = c .y
-yLeft (cell.Refused n) old = old
+abbrev pub yAfter : CellAnswer → ℤ → ℤ
+yAfter (cell.Found c) old = c .y
+yAfter (cell.Refused n) old = old
 
 -- ---- a position's mark
+-- The result: 0 where there is a mark.
+abbrev pub markResult : MarkAnswer → ℕ
+markResult (light.Light l) = 0
+markResult (light.Refused n) = n
 
-abbrev pub markNumber : MarkAnswer → ℕ
-markNumber (light.Light l) = 0
-markNumber (light.Refused n) = n
-
-abbrev pub markLeft : MarkAnswer → Bool → Bool
-markLeft (light.Light l) old = l
-markLeft (light.Refused n) old = old
+-- The out-parameter after the call: whether it is light.
+abbrev pub markAfter : MarkAnswer → Bool → Bool
+markAfter (light.Light l) old = l
+markAfter (light.Refused n) old = old

@@ -10,30 +10,31 @@ use Rattle.marks.specs.declared.correlate.Best.{Best}
 use Rattle.marks.specs.declared.correlate.Best.the-variants as best
 
 -- ---- light and dark
-
-abbrev pub classifyNumber : Classified → ℕ
-classifyNumber classified.Done = 0
-classifyNumber (classified.Refused n) = n
+-- The result: 0 where the marks are told apart.
+abbrev pub classifyResult : Classified → ℕ
+classifyResult classified.Done = 0
+classifyResult (classified.Refused n) = n
 
 -- ---- the best pose
+-- The result: 0 where there is a pose.
+abbrev pub bestResult : Best → ℕ
+bestResult (best.Pose s r b) = 0
+bestResult (best.Refused n) = n
 
-abbrev pub bestNumber : Best → ℕ
-bestNumber (best.Pose s r b) = 0
-bestNumber (best.Refused n) = n
+-- The out-parameters after the call: the score, the corner, and whether the ring runs backwards.
+abbrev pub scoreAfter : Best → Float → Float
+scoreAfter (best.Pose s r b) old = s
+scoreAfter (best.Refused n) old = old
 
-abbrev pub scoreLeft : Best → Float → Float
-scoreLeft (best.Pose s r b) old = s
-scoreLeft (best.Refused n) old = old
+abbrev pub cornerAfter : Best → ℕ → ℕ
+cornerAfter (best.Pose s r b) old = r
+cornerAfter (best.Refused n) old = old
 
-abbrev pub cornerLeft : Best → ℕ → ℕ
-cornerLeft (best.Pose s r b) old = r
-cornerLeft (best.Refused n) old = old
-
-abbrev pub reversedLeft : Best → Bool → Bool
-reversedLeft (best.Pose s r b) old = b
-reversedLeft (best.Refused n) old = old
+abbrev pub reversedAfter : Best → Bool → Bool
+reversedAfter (best.Pose s r b) old = b
+reversedAfter (best.Refused n) old = old
 
 -- The eight counts, handed beside the answer.
-abbrev pub countsLeft : Best → List ℕ → List ℕ → List ℕ
-countsLeft (best.Pose s r b) counts old = counts
-countsLeft (best.Refused n) counts old = old
+abbrev pub countsAfter : Best → List ℕ → List ℕ → List ℕ
+countsAfter (best.Pose s r b) counts old = counts
+countsAfter (best.Refused n) counts old = old

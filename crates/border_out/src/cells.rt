@@ -1,21 +1,21 @@
 // The answers of the doors of border cells, crate `lcr_core`.
 ghost use mathlib.Core.Path.{_≡_};
 ghost use Rattle.border_out.specs.Cells.{
-  versionNumber,
-  sideLeft,
-  positionsLeft,
-  depthNumber,
-  depthLeft,
-  edgeNumber,
-  edgeLeft,
-  offsetLeft,
-  placeNumber,
-  placeLeft,
-  cellNumber,
-  xLeft,
-  yLeft,
-  markNumber,
-  markLeft,
+  versionResult,
+  sideAfter,
+  positionsAfter,
+  depthResult,
+  depthAfter,
+  edgeResult,
+  edgeAfter,
+  offsetAfter,
+  placeResult,
+  placeAfter,
+  cellResult,
+  xAfter,
+  yAfter,
+  markResult,
+  markAfter,
 };
 use lcr_core::doors::CellAnswer;
 use lcr_core::doors::EdgeAnswer;
@@ -26,9 +26,9 @@ use lcr_core::version::VersionAnswer;
 
 // A version's side and positions.
 pub fn put_version(answer: VersionAnswer, side: &mut u16, positions: &mut usize) -> u32
-    ensures { λ r. ⌜ r ≡ versionNumber answer ⌝ }
-    ensures { λ _. ⌜ now (side .exit) ≡ sideLeft answer (now (side .entry)) ⌝ }
-    ensures { λ _. ⌜ now (positions .exit) ≡ positionsLeft answer (now (positions .entry)) ⌝ }
+    ensures { λ r. ⌜ r ≡ versionResult answer ⌝ }
+    ensures { λ _. ⌜ now (side .exit) ≡ sideAfter answer (now (side .entry)) ⌝ }
+    ensures { λ _. ⌜ now (positions .exit) ≡ positionsAfter answer (now (positions .entry)) ⌝ }
 {
     match answer {
         VersionAnswer::Known(v) => {
@@ -42,8 +42,8 @@ pub fn put_version(answer: VersionAnswer, side: &mut u16, positions: &mut usize)
 
 // How far outside the symbol a cell lies.
 pub fn put_depth(answer: ShellAnswer, depth: &mut usize) -> u32
-    ensures { λ r. ⌜ r ≡ depthNumber answer ⌝ }
-    ensures { λ _. ⌜ now (depth .exit) ≡ depthLeft answer (now (depth .entry)) ⌝ }
+    ensures { λ r. ⌜ r ≡ depthResult answer ⌝ }
+    ensures { λ _. ⌜ now (depth .exit) ≡ depthAfter answer (now (depth .entry)) ⌝ }
 {
     match answer {
         ShellAnswer::Depth(d) => {
@@ -56,9 +56,9 @@ pub fn put_depth(answer: ShellAnswer, depth: &mut usize) -> u32
 
 // The edge that a cell sits on, and its coordinate along it.
 pub fn put_edge(answer: EdgeAnswer, edge: &mut usize, offset: &mut i32) -> u32
-    ensures { λ r. ⌜ r ≡ edgeNumber answer ⌝ }
-    ensures { λ _. ⌜ now (edge .exit) ≡ edgeLeft answer (now (edge .entry)) ⌝ }
-    ensures { λ _. ⌜ now (offset .exit) ≡ offsetLeft answer (now (offset .entry)) ⌝ }
+    ensures { λ r. ⌜ r ≡ edgeResult answer ⌝ }
+    ensures { λ _. ⌜ now (edge .exit) ≡ edgeAfter answer (now (edge .entry)) ⌝ }
+    ensures { λ _. ⌜ now (offset .exit) ≡ offsetAfter answer (now (offset .entry)) ⌝ }
 {
     match answer {
         EdgeAnswer::Along(e, o) => {
@@ -72,8 +72,8 @@ pub fn put_edge(answer: EdgeAnswer, edge: &mut usize, offset: &mut i32) -> u32
 
 // The position of a cell of the ring.
 pub fn put_place(answer: PlaceAnswer, position: &mut usize) -> u32
-    ensures { λ r. ⌜ r ≡ placeNumber answer ⌝ }
-    ensures { λ _. ⌜ now (position .exit) ≡ placeLeft answer (now (position .entry)) ⌝ }
+    ensures { λ r. ⌜ r ≡ placeResult answer ⌝ }
+    ensures { λ _. ⌜ now (position .exit) ≡ placeAfter answer (now (position .entry)) ⌝ }
 {
     match answer {
         PlaceAnswer::At(p) => {
@@ -87,9 +87,9 @@ pub fn put_place(answer: PlaceAnswer, position: &mut usize) -> u32
 
 // The cell of a position.
 pub fn put_cell(answer: CellAnswer, x: &mut i32, y: &mut i32) -> u32
-    ensures { λ r. ⌜ r ≡ cellNumber answer ⌝ }
-    ensures { λ _. ⌜ now (x .exit) ≡ xLeft answer (now (x .entry)) ⌝ }
-    ensures { λ _. ⌜ now (y .exit) ≡ yLeft answer (now (y .entry)) ⌝ }
+    ensures { λ r. ⌜ r ≡ cellResult answer ⌝ }
+    ensures { λ _. ⌜ now (x .exit) ≡ xAfter answer (now (x .entry)) ⌝ }
+    ensures { λ _. ⌜ now (y .exit) ≡ yAfter answer (now (y .entry)) ⌝ }
 {
     match answer {
         CellAnswer::Found(c) => {
@@ -105,8 +105,8 @@ pub fn put_cell(answer: CellAnswer, x: &mut i32, y: &mut i32) -> u32
 
 // Whether the ring is light at a position.
 pub fn put_mark(answer: MarkAnswer, light: &mut bool) -> u32
-    ensures { λ r. ⌜ r ≡ markNumber answer ⌝ }
-    ensures { λ _. ⌜ now (light .exit) ≡ markLeft answer (now (light .entry)) ⌝ }
+    ensures { λ r. ⌜ r ≡ markResult answer ⌝ }
+    ensures { λ _. ⌜ now (light .exit) ≡ markAfter answer (now (light .entry)) ⌝ }
 {
     match answer {
         MarkAnswer::Light(l) => {

@@ -1,13 +1,13 @@
 // The answers of the doors of ring marks, crate `marks`.
 ghost use mathlib.Core.Path.{_≡_};
-ghost use Rattle.border_out.specs.Poses.{classifyNumber, bestNumber};
-ghost use Rattle.border_out.specs.Poses.{scoreLeft, cornerLeft, reversedLeft, countsLeft};
+ghost use Rattle.border_out.specs.Poses.{classifyResult, bestResult};
+ghost use Rattle.border_out.specs.Poses.{scoreAfter, cornerAfter, reversedAfter, countsAfter};
 use marks::classify::Classified;
 use marks::correlate::Best;
 
 // Of marks told apart: 0, or the refusal's number.
 pub fn number_of(answer: Classified) -> u32
-    ensures { λ r. ⌜ r ≡ classifyNumber answer ⌝ }
+    ensures { λ r. ⌜ r ≡ classifyResult answer ⌝ }
 {
     match answer {
         Classified::Done => 0,
@@ -30,11 +30,11 @@ pub fn put_best(
     reversed: &mut bool,
     counts: &mut [u16; 8],
 ) -> u32
-    ensures { λ r. ⌜ r ≡ bestNumber best ⌝ }
-    ensures { λ _. ⌜ now (score .exit) ≡ scoreLeft best (now (score .entry)) ⌝ }
-    ensures { λ _. ⌜ now (corner .exit) ≡ cornerLeft best (now (corner .entry)) ⌝ }
-    ensures { λ _. ⌜ now (reversed .exit) ≡ reversedLeft best (now (reversed .entry)) ⌝ }
-    ensures { λ _. ⌜ now (counts .exit) ≡ countsLeft best from (now (counts .entry)) ⌝ }
+    ensures { λ r. ⌜ r ≡ bestResult best ⌝ }
+    ensures { λ _. ⌜ now (score .exit) ≡ scoreAfter best (now (score .entry)) ⌝ }
+    ensures { λ _. ⌜ now (corner .exit) ≡ cornerAfter best (now (corner .entry)) ⌝ }
+    ensures { λ _. ⌜ now (reversed .exit) ≡ reversedAfter best (now (reversed .entry)) ⌝ }
+    ensures { λ _. ⌜ now (counts .exit) ≡ countsAfter best from (now (counts .entry)) ⌝ }
 {
     match best {
         Best::Pose(s, r, b) => {

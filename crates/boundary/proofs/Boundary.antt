@@ -8,7 +8,7 @@ use native.Mathlib.Nat.{add-comm, add-assoc, zero-add}
 use lib.Dec.{ltb}
 use lib.IntN.{ℤ, pos}
 use borrow.Author.Tests.{ltb-true}
-use Rattle.laws.specs.Fold.{fold, sumTo, bit}
+use Rattle.laws.specs.Fold.{fold, sumTo, bit, joined}
 use Rattle.laws.specs.Move.{Move, still, flipped, turned, sidesOf, wideOf, highOf, placeOf, Box, boxOf}
 use Rattle.laws.proofs.Bools.{bool-ext}
 use Rattle.laws.proofs.Folds.{fold-ext, fold-reverse}
@@ -21,10 +21,10 @@ use Rattle.whole.proofs.Sums.{sub-nat}
 use Rattle.whole.proofs.Run.{same-true, same-refl}
 use Rattle.whole.proofs.Moved.{flips-mirror, inj}
 use Rattle.boundary.specs.Runs.{runStart, runEnd, edges}
-use Rattle.boundary.specs.Boundary.{joined, across, down, rowPoints, columnPoints, rowsFrom, columnsFrom, boundary}
+use Rattle.boundary.specs.Boundary.{across, down, rowPoints, columnPoints, rowsFrom, columnsFrom, boundary}
 use Rattle.hull.specs.Points.{ptOf, ptsOf}
 use Rattle.whole.specs.Moves.{often, pointOf}
-use Rattle.boundary.proofs.Joined.{joined-ext}
+use Rattle.laws.proofs.Joined.{joined-ext}
 use Rattle.boundary.proofs.Runs.{start-mirror, end-mirror, both-ends, start-le, run-end-le, edges-ext}
 
 -- ---- how often

@@ -7,7 +7,7 @@ use lib.Dec.{leb, ltb}
 use lib.ListN.{length}
 use lib.Ieee
 use lib.Ieee.{ofBits, round, add, sub, mul, lt, le, eq, isNan}
-use Rattle.laws.specs.Fold.{first, endOf}
+use Rattle.laws.specs.Fold.{first, endOf, joined}
 use native.Mathlib.Omega.{arith}
 use Rattle.laws.specs.Move.{flipped, isFlipped, Box}
 use Rattle.ieee.specs.Ops.{sign, before}
@@ -18,7 +18,7 @@ use Rattle.whole.specs.Moves.{mirror}
 use Rattle.whole.proofs.Reordered.{rot-same}
 use Rattle.whole.specs.Wrap.{sel, lst, nxt, wlk, wrap, keep, fars, ends, iquad}
 use Rattle.boundary.specs.Runs.{some, every, runAt, inRun, runStart, runEnd, edges}
-use Rattle.boundary.specs.Boundary.{joined, rowPoints, columnPoints, rowsFrom, columnsFrom, boundary}
+use Rattle.boundary.specs.Boundary.{rowPoints, columnPoints, rowsFrom, columnsFrom, boundary}
 use Rattle.hull.specs.Points.{ptOf, ptsOf, halfOf, numbersOf, floatsOf}
 use Rattle.whole.specs.Moves.{often, pointOf, movedRound}
 use Rattle.hull.specs.Hull.{crossAt, d2At, betterAt, lowerAt, sameAt, hullOf, hullPoints}

@@ -1,6 +1,4 @@
 pub mod Runs
-pub mod Joined
-pub mod Laying
 pub mod Boundary
 pub mod Points
 pub mod Outlines

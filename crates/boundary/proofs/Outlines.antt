@@ -22,18 +22,8 @@ use Rattle.regions.specs.Boxes.{regionBox}
 use Rattle.regions.proofs.Kept.{Untied}
 use Rattle.regions.proofs.Regions.{box-of}
 use Rattle.boundary.specs.Runs.{runStart, runEnd, edges}
-use Rattle.boundary.specs.Boundary.{
-  isMember,
-  joined,
-  across,
-  down,
-  rowPoints,
-  columnPoints,
-  rowsFrom,
-  columnsFrom,
-  boundary,
-  outlineOf,
-}
+use Rattle.boundary.specs.Boundary.{isMember, across, down, rowPoints, columnPoints, rowsFrom, columnsFrom, boundary, outlineOf}
+use Rattle.laws.specs.Fold.{joined}
 use Rattle.hull.specs.Points.{ptOf, ptsOf, numbersOf, floatsOf, Small}
 use Rattle.whole.specs.Moves.{pointOf, movedRound}
 use Rattle.hull.specs.Hull.{hullOf, hullPoints}

@@ -1,9 +1,10 @@
 -- Member pixels and boundary points, as document 01 has them under "Cell labels" and "Boundary points". Points are in doubled coordinates,
 -- so that centres and edges of pixels are whole numbers. Definitions only. Assumes nothing.
 use mathlib.Core.Bool.{Bool, _&&_, _||_, not}
-use mathlib.Core.List.{List, [], _++_, map}
-use Prim.Native.Nat.{ℕ, zero, suc, _+_, _-_, _*_, _/_}
+use mathlib.Core.List.{List, _++_, map}
+use Prim.Native.Nat.{ℕ, _+_, _-_, _*_, _/_}
 use lib.Dec.{eqb, ltb}
+use Rattle.laws.specs.Fold.{joined}
 use Rattle.laws.specs.Plane.{Plane, plane}
 use Rattle.laws.specs.Move.{Box}
 use Rattle.levels.specs.Level.{cells, level}
@@ -26,11 +27,6 @@ isMember p w h want = memberOf want p (level p w h) (labelAt p w h)
 -- The same of lists: the bytes s of a picture of width w, row by row, its thresholds and its labels.
 unfoldable pub memberAt : ℕ → ℕ → List ℕ → List ℕ → List ℕ → ℕ → ℕ → Bool
 memberAt want w s levels labels = memberOf want (plane w s) (plane (cells w) levels) (plane (cells8 w) labels)
-
--- f 0, .. , f (n - 1), one list after the other.
-unfoldable pub joined : {A : Type 0} → ℕ → (ℕ → List A) → List A
-joined zero f = []
-joined (suc n) f = joined n f ++ f n
 
 -- A point on row y, and a point on column x.
 abbrev pub across : ℕ → ℕ → ℕ × ℕ

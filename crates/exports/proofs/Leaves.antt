@@ -13,14 +13,13 @@ use Rattle.hull.specs.declared.points.Corners.the-variants.{Found, NoQuad}
 use Rattle.hull.specs.Quad.{valuesOf}
 use Rattle.regions.specs.declared.answer.Kept.{Kept}
 use Rattle.regions.specs.Door.{answerBy}
-use Rattle.pictures_out.specs.Answers.{leftAs, eightOf}
+use Rattle.pictures_out.specs.Answers.{afterBy}
 
-pub left-refused : {A : Type 0} (n : ℕ) (new old : A) → (n ≡ 0 → ⊥) → leftAs n new old ≡ old
+pub left-refused : {A : Type 0} (n : ℕ) (new old : A) → (n ≡ 0 → ⊥) → afterBy n new old ≡ old
 left-refused zero new old off = absurd (off refl)
 left-refused (suc n) new old off = refl
 
-pub quad-found : (r : Corners) (q : Quad) (v : List Float) → valuesOf r ≡ v → r ≡ Found q → v ≡ eightOf q
-unfolding valuesOf
+pub quad-found : (r : Corners) (q : Quad) (v : List Float) → valuesOf r ≡ v → r ≡ Found q → v ≡ valuesOf (Found q)
 quad-found r q v ev e = sym ev ∙ ap valuesOf e
 
 pub quad-none : (r : Corners) (v : List Float) → valuesOf r ≡ v → r ≡ NoQuad → v ≡ []

@@ -9,9 +9,9 @@ use Rattle.marks.specs.Pose.{countsOf}
 use Rattle.marks.specs.Doors.{countsBeside}
 use Rattle.marks.specs.declared.correlate.Best.{Best}
 use Rattle.marks.specs.declared.correlate.Best.the-variants as best
-use Rattle.border_out.specs.Poses.{countsLeft}
+use Rattle.border_out.specs.Poses.{countsAfter}
 
 pub counts-beside : (b : Best) (v : ℕ) (s : List Bool) (old : List ℕ)
-    → countsLeft b (countsBeside b v s) old ≡ countsLeft b (countsOf v s) old
+    → countsAfter b (countsBeside b v s) old ≡ countsAfter b (countsOf v s) old
 counts-beside (best.Pose x r m) v s old = refl
 counts-beside (best.Refused n) v s old = refl

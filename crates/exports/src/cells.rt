@@ -10,32 +10,32 @@ ghost use Rattle.lcr_core.specs.Doors.{
 };
 ghost use Rattle.lcr_core.specs.Version.{versionAnswer};
 ghost use Rattle.border_out.specs.Cells.{
-  versionNumber,
-  sideLeft,
-  positionsLeft,
-  depthNumber,
-  depthLeft,
-  edgeNumber,
-  edgeLeft,
-  offsetLeft,
-  placeNumber,
-  placeLeft,
-  cellNumber,
-  xLeft,
-  yLeft,
-  markNumber,
-  markLeft,
+  versionResult,
+  sideAfter,
+  positionsAfter,
+  depthResult,
+  depthAfter,
+  edgeResult,
+  edgeAfter,
+  offsetAfter,
+  placeResult,
+  placeAfter,
+  cellResult,
+  xAfter,
+  yAfter,
+  markResult,
+  markAfter,
 };
 use lcr_core::version::Version;
 
 // Cells on a side of a version's symbol, and positions round its ring.
 #[no_mangle]
 pub extern "C" fn lcr_version(version: u8, side: &mut u16, positions: &mut usize) -> u32
-    ensures { λ r. ⌜ r ≡ versionNumber (versionAnswer version) ⌝ }
-    ensures { λ _. ⌜ now (side .exit) ≡ sideLeft (versionAnswer version) (now (side .entry)) ⌝ }
+    ensures { λ r. ⌜ r ≡ versionResult (versionAnswer version) ⌝ }
+    ensures { λ _. ⌜ now (side .exit) ≡ sideAfter (versionAnswer version) (now (side .entry)) ⌝ }
     ensures { λ _. ⌜
         now (positions .exit)
-        ≡ positionsLeft (versionAnswer version) (now (positions .entry)) ⌝ }
+        ≡ positionsAfter (versionAnswer version) (now (positions .entry)) ⌝ }
 {
     border_out::cells::put_version(Version::new(version), side, positions)
 }
@@ -43,10 +43,10 @@ pub extern "C" fn lcr_version(version: u8, side: &mut u16, positions: &mut usize
 // How far outside the symbol a cell lies.
 #[no_mangle]
 pub extern "C" fn lcr_shell(version: u8, x: i32, y: i32, depth: &mut usize) -> u32
-    ensures { λ r. ⌜ r ≡ depthNumber (shellAnswer version x y) ⌝ }
+    ensures { λ r. ⌜ r ≡ depthResult (shellAnswer version x y) ⌝ }
     ensures { λ _. ⌜
         now (depth .exit)
-        ≡ depthLeft (shellAnswer version x y) (now (depth .entry)) ⌝ }
+        ≡ depthAfter (shellAnswer version x y) (now (depth .entry)) ⌝ }
 {
     border_out::cells::put_depth(lcr_core::doors::shell(version, x, y), depth)
 }
@@ -60,11 +60,11 @@ pub extern "C" fn lcr_edge_and_offset(
     edge: &mut usize,
     offset: &mut i32,
 ) -> u32
-    ensures { λ r. ⌜ r ≡ edgeNumber (edgeAnswer version x y) ⌝ }
-    ensures { λ _. ⌜ now (edge .exit) ≡ edgeLeft (edgeAnswer version x y) (now (edge .entry)) ⌝ }
+    ensures { λ r. ⌜ r ≡ edgeResult (edgeAnswer version x y) ⌝ }
+    ensures { λ _. ⌜ now (edge .exit) ≡ edgeAfter (edgeAnswer version x y) (now (edge .entry)) ⌝ }
     ensures { λ _. ⌜
         now (offset .exit)
-        ≡ offsetLeft (edgeAnswer version x y) (now (offset .entry)) ⌝ }
+        ≡ offsetAfter (edgeAnswer version x y) (now (offset .entry)) ⌝ }
 {
     border_out::cells::put_edge(
         lcr_core::doors::edge_and_offset(version, x, y),
@@ -76,10 +76,10 @@ pub extern "C" fn lcr_edge_and_offset(
 // The position of a cell of the ring.
 #[no_mangle]
 pub extern "C" fn lcr_position(version: u8, x: i32, y: i32, position: &mut usize) -> u32
-    ensures { λ r. ⌜ r ≡ placeNumber (placeAnswer version x y) ⌝ }
+    ensures { λ r. ⌜ r ≡ placeResult (placeAnswer version x y) ⌝ }
     ensures { λ _. ⌜
         now (position .exit)
-        ≡ placeLeft (placeAnswer version x y) (now (position .entry)) ⌝ }
+        ≡ placeAfter (placeAnswer version x y) (now (position .entry)) ⌝ }
 {
     border_out::cells::put_place(lcr_core::doors::position(version, x, y), position)
 }
@@ -87,9 +87,9 @@ pub extern "C" fn lcr_position(version: u8, x: i32, y: i32, position: &mut usize
 // The outer cell of a position.
 #[no_mangle]
 pub extern "C" fn lcr_outer_cell(version: u8, p: usize, x: &mut i32, y: &mut i32) -> u32
-    ensures { λ r. ⌜ r ≡ cellNumber (outerAnswer version p) ⌝ }
-    ensures { λ _. ⌜ now (x .exit) ≡ xLeft (outerAnswer version p) (now (x .entry)) ⌝ }
-    ensures { λ _. ⌜ now (y .exit) ≡ yLeft (outerAnswer version p) (now (y .entry)) ⌝ }
+    ensures { λ r. ⌜ r ≡ cellResult (outerAnswer version p) ⌝ }
+    ensures { λ _. ⌜ now (x .exit) ≡ xAfter (outerAnswer version p) (now (x .entry)) ⌝ }
+    ensures { λ _. ⌜ now (y .exit) ≡ yAfter (outerAnswer version p) (now (y .entry)) ⌝ }
 {
     border_out::cells::put_cell(lcr_core::doors::outer_cell(version, p), x, y)
 }
@@ -97,9 +97,9 @@ pub extern "C" fn lcr_outer_cell(version: u8, p: usize, x: &mut i32, y: &mut i32
 // The inner cell of a position.
 #[no_mangle]
 pub extern "C" fn lcr_inner_cell(version: u8, p: usize, x: &mut i32, y: &mut i32) -> u32
-    ensures { λ r. ⌜ r ≡ cellNumber (innerAnswer version p) ⌝ }
-    ensures { λ _. ⌜ now (x .exit) ≡ xLeft (innerAnswer version p) (now (x .entry)) ⌝ }
-    ensures { λ _. ⌜ now (y .exit) ≡ yLeft (innerAnswer version p) (now (y .entry)) ⌝ }
+    ensures { λ r. ⌜ r ≡ cellResult (innerAnswer version p) ⌝ }
+    ensures { λ _. ⌜ now (x .exit) ≡ xAfter (innerAnswer version p) (now (x .entry)) ⌝ }
+    ensures { λ _. ⌜ now (y .exit) ≡ yAfter (innerAnswer version p) (now (y .entry)) ⌝ }
 {
     border_out::cells::put_cell(lcr_core::doors::inner_cell(version, p), x, y)
 }
@@ -107,8 +107,8 @@ pub extern "C" fn lcr_inner_cell(version: u8, p: usize, x: &mut i32, y: &mut i32
 // Whether the ring is light at a position.
 #[no_mangle]
 pub extern "C" fn lcr_sequence_light(version: u8, p: usize, light: &mut bool) -> u32
-    ensures { λ r. ⌜ r ≡ markNumber (markAnswer version p) ⌝ }
-    ensures { λ _. ⌜ now (light .exit) ≡ markLeft (markAnswer version p) (now (light .entry)) ⌝ }
+    ensures { λ r. ⌜ r ≡ markResult (markAnswer version p) ⌝ }
+    ensures { λ _. ⌜ now (light .exit) ≡ markAfter (markAnswer version p) (now (light .entry)) ⌝ }
 {
     border_out::cells::put_mark(lcr_core::doors::sequence_light(version, p), light)
 }

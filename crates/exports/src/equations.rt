@@ -2,7 +2,7 @@
 ghost use mathlib.Core.Path.{_≡_};
 ghost use Rattle.math.specs.Equations.{solveAnswer, fitAnswer};
 ghost use Rattle.medians.specs.Median.{medianAnswer, madSigmaAnswer};
-ghost use Rattle.numbers_out.specs.Solutions.{valueLeft, ValuesLeft, givenOr, solutionNumber};
+ghost use Rattle.numbers_out.specs.Solutions.{valueAfter, ValuesAfter, givenOr, solutionResult};
 
 // The median of values, which come into some other order.
 #[no_mangle]
@@ -10,8 +10,8 @@ pub extern "C" fn lcr_median(values: &mut [f32], median: &mut f32) -> u32
     ensures { λ r. ⌜ r ≡ medianAnswer (now (values .entry)) .number ⌝ }
     ensures { λ _. ⌜
         now (median .exit)
-        ≡ valueLeft (medianAnswer (now (values .entry)) .values) (now (median .entry)) ⌝ }
-    ensures { λ r. ⌜ ValuesLeft r (now (values .entry)) (now (values .exit)) ⌝ }
+        ≡ valueAfter (medianAnswer (now (values .entry)) .values) (now (median .entry)) ⌝ }
+    ensures { λ r. ⌜ ValuesAfter r (now (values .entry)) (now (values .exit)) ⌝ }
 {
     numbers_out::solutions::put_number(medians::median(values), median)
 }
@@ -22,7 +22,7 @@ pub extern "C" fn lcr_mad_sigma(values: &[f32], sigma: &mut f32) -> u32
     ensures { λ r. ⌜ r ≡ madSigmaAnswer (now (values .entry)) .number ⌝ }
     ensures { λ _. ⌜
         now (sigma .exit)
-        ≡ valueLeft (madSigmaAnswer (now (values .entry)) .values) (now (sigma .entry)) ⌝ }
+        ≡ valueAfter (madSigmaAnswer (now (values .entry)) .values) (now (sigma .entry)) ⌝ }
 {
     numbers_out::solutions::put_number(medians::mad_sigma(values), sigma)
 }
@@ -31,7 +31,7 @@ pub extern "C" fn lcr_mad_sigma(values: &[f32], sigma: &mut f32) -> u32
 #[no_mangle]
 pub extern "C" fn lcr_solve(a: &[f64], b: &[f64], n: usize, x: &mut [f64; 8]) -> u32
     ensures { λ r. ⌜
-        r ≡ solutionNumber (solveAnswer n (now (a .entry)) (now (b .entry))) ⌝ }
+        r ≡ solutionResult (solveAnswer n (now (a .entry)) (now (b .entry))) ⌝ }
     ensures { λ _. ⌜
         now (x .exit)
         ≡ givenOr (solveAnswer n (now (a .entry)) (now (b .entry)) .values)
@@ -49,7 +49,7 @@ pub extern "C" fn lcr_least_squares(
     x: &mut [f64; 8],
 ) -> u32
     ensures { λ r. ⌜
-        r ≡ solutionNumber (fitAnswer n (now (basis .entry)) (now (targets .entry))) ⌝ }
+        r ≡ solutionResult (fitAnswer n (now (basis .entry)) (now (targets .entry))) ⌝ }
     ensures { λ _. ⌜
         now (x .exit)
         ≡ givenOr (fitAnswer n (now (basis .entry)) (now (targets .entry)) .values)

@@ -10,7 +10,7 @@ pub mod cells;
 pub mod equations;
 pub mod listings;
 pub mod maps;
-pub mod marks_exports;
 pub mod outlines;
 pub mod pictures;
+pub mod poses;
 pub mod rings;

@@ -2,16 +2,16 @@
 ghost use mathlib.Core.Path.{_≡_};
 ghost use lib.ListN.{length};
 ghost use Rattle.listing.specs.Listing.{checkRecord, textOf, filled};
-ghost use Rattle.pictures_out.specs.Answers.{leftAs};
+ghost use Rattle.pictures_out.specs.Answers.{afterBy};
 
 // The listing of the picture of a record: its bytes, zeros after them, and how many there are.
 #[no_mangle]
 pub extern "C" fn lcr_listing(input: &[u8], text: &mut [u8; 512], len: &mut usize) -> u32
     ensures { λ r. ⌜ r ≡ checkRecord (now (input .entry)) ⌝ }
     ensures { λ r. ⌜
-        now (text .exit) ≡ leftAs r (filled (textOf (now (input .entry)))) (now (text .entry)) ⌝ }
+        now (text .exit) ≡ afterBy r (filled (textOf (now (input .entry)))) (now (text .entry)) ⌝ }
     ensures { λ r. ⌜
-        now (len .exit) ≡ leftAs r (length (textOf (now (input .entry)))) (now (len .entry)) ⌝ }
+        now (len .exit) ≡ afterBy r (length (textOf (now (input .entry)))) (now (len .entry)) ⌝ }
 {
     let no = listing::record::check(input);
     if no != 0 {

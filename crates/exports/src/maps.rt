@@ -6,15 +6,15 @@ ghost use lib.Dec.{ltb};
 ghost use lib.ListN.{length};
 ghost use Rattle.hull.specs.Points.{laid};
 ghost use Rattle.transform.specs.Mapping.{fromQuad, withRadial, applied};
-ghost use Rattle.numbers_out.specs.Maps.{mapOf, elevenOf, mappedNumber, mappedLeft, pixelsOf};
+ghost use Rattle.numbers_out.specs.Maps.{mapOf, elevenOf, mappedResult, mappedAfter, pixelsOf};
 
 // The transform that takes four corners to four others, without a lens.
 #[no_mangle]
 pub extern "C" fn lcr_from_quad(src: &[f32; 8], dst: &[f32; 8], t: &mut [f64; 11]) -> u32
-    ensures { λ r. ⌜ r ≡ mappedNumber (fromQuad (now (src .entry)) (now (dst .entry))) ⌝ }
+    ensures { λ r. ⌜ r ≡ mappedResult (fromQuad (now (src .entry)) (now (dst .entry))) ⌝ }
     ensures { λ _. ⌜
         now (t .exit)
-        ≡ mappedLeft (fromQuad (now (src .entry)) (now (dst .entry))) (now (t .entry)) ⌝ }
+        ≡ mappedAfter (fromQuad (now (src .entry)) (now (dst .entry))) (now (t .entry)) ⌝ }
 {
     numbers_out::maps::put_mapped(transform::from_quad(*src, *dst), t)
 }

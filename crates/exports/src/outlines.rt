@@ -7,12 +7,12 @@ ghost use lib.ListN.{length};
 ghost use Rattle.hull.specs.Points.{many, laid};
 ghost use Rattle.hull.specs.Hull.{hullOf, hullFloats};
 ghost use Rattle.hull.specs.Quad.{quadFloats};
-ghost use Rattle.numbers_out.specs.Solutions.{noneNumber, givenOr};
+ghost use Rattle.numbers_out.specs.Solutions.{noneResult, givenOr};
 ghost use Rattle.pictures_out.specs.Answers.{
   outlineAnswer,
-  outlineLeft,
-  outlineNumber,
-  pointsLeft,
+  outlineAfter,
+  outlineResult,
+  pointsAfter,
 };
 use hull::points::Corners;
 
@@ -33,14 +33,14 @@ pub extern "C" fn lcr_outline(
     points: &mut usize,
 ) -> u32
     ensures { λ r. ⌜
-        r ≡ outlineNumber (outlineAnswer (now (gray .entry)) (now (levels .entry))
+        r ≡ outlineResult (outlineAnswer (now (gray .entry)) (now (levels .entry))
         (now (labels .entry)) want width height x0 y0 x1 y1 (length (now (out .entry)))) ⌝ }
     ensures { λ _. ⌜
-        now (points .exit) ≡ pointsLeft (outlineAnswer (now (gray .entry)) (now (levels .entry))
+        now (points .exit) ≡ pointsAfter (outlineAnswer (now (gray .entry)) (now (levels .entry))
         (now (labels .entry)) want width height x0 y0 x1 y1 (length (now (out .entry))))
         (now (points .entry)) ⌝ }
     ensures { λ _. ⌜
-        now (out .exit) ≡ outlineLeft (now (gray .entry)) (now (levels .entry))
+        now (out .exit) ≡ outlineAfter (now (gray .entry)) (now (levels .entry))
         (now (labels .entry)) want width height x0 y0 x1 y1 (now (out .entry)) ⌝ }
 {
     let a = outline::outline(
@@ -85,7 +85,7 @@ pub extern "C" fn lcr_convex_hull(points: &[f32], out: &mut [f32], vertices: &mu
 // The quad of the vertices of a hull.
 #[no_mangle]
 pub extern "C" fn lcr_quad(vertices: &[f32], quad: &mut [f32; 8]) -> u32
-    ensures { λ r. ⌜ r ≡ noneNumber (quadFloats (now (vertices .entry))) ⌝ }
+    ensures { λ r. ⌜ r ≡ noneResult (quadFloats (now (vertices .entry))) ⌝ }
     ensures { λ _. ⌜
         now (quad .exit)
         ≡ givenOr (quadFloats (now (vertices .entry))) (now (quad .entry)) ⌝ }

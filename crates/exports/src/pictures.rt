@@ -9,7 +9,7 @@ ghost use Rattle.regions.specs.Door.{
   labelsAfter,
   StackAfter,
 };
-ghost use Rattle.pictures_out.specs.Answers.{leftAs};
+ghost use Rattle.pictures_out.specs.Answers.{afterBy};
 ghost use Rattle.pictures_out.specs.Kept.{regionNumbers};
 
 // The level grid, the labels and the regions of a picture.
@@ -36,7 +36,7 @@ pub extern "C" fn lcr_picture(
     ensures stack { λ r. ⌜ StackAfter r width height (now (stack .entry)) (now (stack .exit)) ⌝ }
     ensures regions { λ r. ⌜
         now (regions .exit)
-        ≡ leftAs r (regionNumbers (keptRegions (plane width (now (gray .entry))) width height))
+        ≡ afterBy r (regionNumbers (keptRegions (plane width (now (gray .entry))) width height))
         (now (regions .entry)) ⌝ }
 {
     let answer = picture::picture(gray, width, height, levels, labels, stack);

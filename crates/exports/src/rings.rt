@@ -4,7 +4,7 @@ ghost use lib.ListN.{length};
 ghost use Rattle.laws.specs.Lent.{UntouchedPast};
 ghost use Rattle.ring.specs.Checks.{checkRing};
 ghost use Rattle.ring.specs.Trace.{attemptOf};
-ghost use Rattle.pictures_out.specs.Answers.{leftAs};
+ghost use Rattle.pictures_out.specs.Answers.{afterBy};
 ghost use Rattle.rings_out.specs.Rings.{rowsOf, ringOf, cornersOf, isFound};
 use ring::door::Outcome;
 
@@ -31,39 +31,39 @@ pub extern "C" fn lcr_attempt(
         r ≡ checkRing width height (length (now (gray .entry))) (now (points .entry))
         (length (now (straight .entry))) (length (now (cand .entry)))
         (length (now (buf .entry))) most ⌝ }
-    ensures straight { λ r. ⌜ UntouchedPast (leftAs r (length (now (points .entry))) 0)
+    ensures straight { λ r. ⌜ UntouchedPast (afterBy r (length (now (points .entry))) 0)
         (now (straight .entry)) (now (straight .exit)) ⌝ }
-    ensures cand { λ r. ⌜ UntouchedPast (leftAs r (length (now (points .entry))) 0)
+    ensures cand { λ r. ⌜ UntouchedPast (afterBy r (length (now (points .entry))) 0)
         (now (cand .entry)) (now (cand .exit)) ⌝ }
-    ensures buf { λ r. ⌜ UntouchedPast (leftAs r (length (now (points .entry))) 0)
+    ensures buf { λ r. ⌜ UntouchedPast (afterBy r (length (now (points .entry))) 0)
         (now (buf .entry)) (now (buf .exit)) ⌝ }
     ensures hull { λ r. ⌜
         now (hull .exit)
-        ≡ leftAs r (attemptOf (now (gray .entry)) width height (now (points .entry)) most .hull)
+        ≡ afterBy r (attemptOf (now (gray .entry)) width height (now (points .entry)) most .hull)
         (now (hull .entry)) ⌝ }
     ensures found { λ r. ⌜
         now (found .exit)
-        ≡ leftAs r (isFound (attemptOf (now (gray .entry)) width height
+        ≡ afterBy r (isFound (attemptOf (now (gray .entry)) width height
         (now (points .entry)) most .quad)) (now (found .entry)) ⌝ }
     ensures quad { λ r. ⌜
         now (quad .exit)
-        ≡ leftAs r (cornersOf (attemptOf (now (gray .entry)) width height
+        ≡ afterBy r (cornersOf (attemptOf (now (gray .entry)) width height
         (now (points .entry)) most .quad)) (now (quad .entry)) ⌝ }
     ensures tried { λ r. ⌜
         now (tried .exit)
-        ≡ leftAs r (attemptOf (now (gray .entry)) width height (now (points .entry)) most
+        ≡ afterBy r (attemptOf (now (gray .entry)) width height (now (points .entry)) most
         .scores .many) (now (tried .entry)) ⌝ }
     ensures scores { λ r. ⌜
         now (scores .exit)
-        ≡ leftAs r (rowsOf (attemptOf (now (gray .entry)) width height
+        ≡ afterBy r (rowsOf (attemptOf (now (gray .entry)) width height
         (now (points .entry)) most .scores .list)) (now (scores .entry)) ⌝ }
     ensures fix { λ r. ⌜
         now (fix .exit)
-        ≡ leftAs r (ringOf (attemptOf (now (gray .entry)) width height
+        ≡ afterBy r (ringOf (attemptOf (now (gray .entry)) width height
         (now (points .entry)) most .fix)) (now (fix .entry)) ⌝ }
     ensures fallback { λ r. ⌜
         now (fallback .exit)
-        ≡ leftAs r (ringOf (attemptOf (now (gray .entry)) width height
+        ≡ afterBy r (ringOf (attemptOf (now (gray .entry)) width height
         (now (points .entry)) most .fallback)) (now (fallback .entry)) ⌝ }
 {
     let r = ring::door::attempt(gray, width, height, points, most, straight, cand, buf);

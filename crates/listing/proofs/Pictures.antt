@@ -25,7 +25,8 @@ use Rattle.regions.specs.Door.{labelsAfter}
 use Rattle.regions.specs.declared.answer.Region.{Region}
 use Rattle.regions.proofs.Inside.{kept-inside, groups-le, label-le, cells-le}
 use Rattle.hull.specs.Points.{floatsOf, laid}
-use Rattle.boundary.specs.Boundary.{memberOf, memberAt, isMember, joined, rowPoints, columnPoints, rowsFrom, columnsFrom, boundary}
+use Rattle.boundary.specs.Boundary.{memberOf, memberAt, isMember, rowPoints, columnPoints, rowsFrom, columnsFrom, boundary}
+use Rattle.laws.specs.Fold.{joined}
 use Rattle.boundary.proofs.Boundary.{Within, boundary-same}
 use Rattle.boundary.proofs.Members.{member-lists}
 use Rattle.boundary.proofs.Outlines.{boundary-within}

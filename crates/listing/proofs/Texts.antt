@@ -17,8 +17,8 @@ use Rattle.regions.specs.Door.{checkGrids, noRegion, region, keptRegions, answe
 use Rattle.regions.specs.declared.answer.Region.{Region}
 use Rattle.regions.specs.declared.answer.Kept.{Kept}
 use Rattle.regions.specs.declared.answer.PictureAnswer.{PictureAnswer}
-use Rattle.boundary.specs.Boundary.{joined}
-use Rattle.boundary.proofs.Joined.{joined-more}
+use Rattle.laws.specs.Fold.{joined}
+use Rattle.laws.proofs.Joined.{joined-more}
 use Rattle.listing.specs.Text.{lineOf, refusedWord, regionsWord}
 use Rattle.listing.specs.Listing.{pairAt, fourAt, widthOf, heightOf, pixelsOf, isTraySide, checkRecord, regionLines, firstLines}
 use Rattle.listing.specs.Listing.{pictureText, textBy, textOf, filled}

@@ -12,7 +12,8 @@ use Rattle.regions.specs.declared.answer.Region.{Region}
 use Rattle.hull.specs.Points.{numbersOf}
 use Rattle.hull.specs.Hull.{hullPoints}
 use Rattle.hull.specs.Quad.{quadPoints}
-use Rattle.boundary.specs.Boundary.{isMember, joined, boundary}
+use Rattle.boundary.specs.Boundary.{isMember, boundary}
+use Rattle.laws.specs.Fold.{joined}
 use Rattle.outline.specs.Door.{boxAt}
 use Rattle.listing.specs.Text.{lineOf, refusedWord, regionsWord, regionWord, outlineWord, quadWord, noneWord}
 

@@ -20,13 +20,13 @@ use Rattle.medians.specs.declared.Answer.{Answer}
 use Rattle.medians.specs.declared.Answer.the-variants.{Number, Refused}
 use Rattle.transform.specs.declared.Transform.{Transform}
 use Rattle.numbers_out.specs.Maps.{pixelsOf}
-use Rattle.numbers_out.specs.Solutions.{refusedOr, noneNumber, givenOr, ValuesLeft}
+use Rattle.numbers_out.specs.Solutions.{refusedOr, noneResult, givenOr, ValuesAfter}
 
 pub refused-some : (n k : ℕ) → (n ≡ 0 → ⊥) → refusedOr n k ≡ n
 refused-some zero k off = absurd (off refl)
 refused-some (suc n) k off = refl
 
-pub some-number : (x : List Float) → 0 < length x → noneNumber x ≡ 0
+pub some-number : (x : List Float) → 0 < length x → noneResult x ≡ 0
 some-number [] some = absurd (not-suc-le-zero some)
 some-number (a ∷ x) some = refl
 
@@ -34,7 +34,7 @@ pub some-given : (x old : List Float) → 0 < length x → givenOr x old ≡ x
 some-given [] old some = absurd (not-suc-le-zero some)
 some-given (a ∷ x) old some = refl
 
-pub left-by : (a : Answer) (s t : List Float) → Left a s t → ValuesLeft (said a .number) s t
+pub left-by : (a : Answer) (s t : List Float) → Left a s t → ValuesAfter (said a .number) s t
 unfolding SameValues
 left-by (Number x) s t same = same
 left-by (Refused zero) s t same = λ p. rw same

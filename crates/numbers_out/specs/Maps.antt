@@ -1,12 +1,12 @@
 -- A transform as the eleven numbers that C functions take and give, and what is left where there may be none. Definitions only.
 -- Assumes nothing.
 use mathlib.Core.List.{List, [], _∷_}
-use Prim.Native.Nat.{ℕ}
+use Prim.Native.Nat.{ℕ, _+_, _*_}
 use lib.ListN.{getD}
 use lib.Ieee.{Float, nan}
 use Rattle.hull.specs.Points.{many}
-use Rattle.boundary.specs.Boundary.{joined}
-use Rattle.fit.specs.F32.{xOf, yOf}
+use Rattle.laws.specs.Fold.{joined}
+use Rattle.math.specs.Lists.{at}
 use Rattle.transform.specs.Mapping.{applied}
 use Rattle.transform.specs.declared.Transform.{Transform}
 use Rattle.transform.specs.declared.Mapped.{Mapped}
@@ -34,18 +34,18 @@ elevenOf t =
     t .m0 ∷ t .m1 ∷ t .m2 ∷ t .m3 ∷ t .m4 ∷ t .m5 ∷ t .m6 ∷ t .m7 ∷ t .cx ∷ t .cy ∷ t .kappa ∷ []
 
 -- The result where a transform may be none, and what is left of a list of eleven.
-abbrev pub mappedNumber : Mapped → ℕ
-mappedNumber mapped.None = 255
-mappedNumber (mapped.Some t) = 0
+abbrev pub mappedResult : Mapped → ℕ
+mappedResult mapped.None = 255
+mappedResult (mapped.Some t) = 0
 
-abbrev pub mappedLeft : Mapped → List Float → List Float
-mappedLeft mapped.None old = old
-mappedLeft (mapped.Some t) old = elevenOf t
+abbrev pub mappedAfter : Mapped → List Float → List Float
+mappedAfter mapped.None old = old
+mappedAfter (mapped.Some t) old = elevenOf t
 
 -- ---- many places
 -- The pixel of place i of a list, u and v by turns: its x and y.
 abbrev pub pixelAt : Transform → List Float → ℕ → List Float
-pixelAt t s i = applied t (xOf s i) (yOf s i) .x ∷ applied t (xOf s i) (yOf s i) .y ∷ []
+pixelAt t s i = applied t (at s (2 * i)) (at s (2 * i + 1)) .x ∷ applied t (at s (2 * i)) (at s (2 * i + 1)) .y ∷ []
 
 -- The pixels of the first n places, and of all; an odd last number is left out.
 abbrev pub pixelsTo : Transform → List Float → ℕ → List Float

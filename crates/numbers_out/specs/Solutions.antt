@@ -8,19 +8,19 @@ use Rattle.math.specs.Answers.{Said}
 use Rattle.medians.specs.Median.{SameValues}
 
 -- An out-parameter that takes the first value: as before where there is none.
-abbrev pub valueLeft : List Float → Float → Float
-valueLeft [] old = old
-valueLeft (x ∷ xs) old = x
+abbrev pub valueAfter : List Float → Float → Float
+valueAfter [] old = old
+valueAfter (x ∷ xs) old = x
 
 -- What `lcr_median` leaves in its list, by its result: the same values in some order, or the list as it was.
-abbrev pub ValuesLeft : ℕ → List Float → List Float → Type 0
-ValuesLeft zero s t = SameValues s t
-ValuesLeft (suc n) s t = t ≡ s
+abbrev pub ValuesAfter : ℕ → List Float → List Float → Type 0
+ValuesAfter zero s t = SameValues s t
+ValuesAfter (suc n) s t = t ≡ s
 
 -- Numbers that are none where there are none: the result, and what is left of a list.
-abbrev pub noneNumber : List Float → ℕ
-noneNumber [] = 255
-noneNumber (x ∷ xs) = 0
+abbrev pub noneResult : List Float → ℕ
+noneResult [] = 255
+noneResult (x ∷ xs) = 0
 
 abbrev pub givenOr : List Float → List Float → List Float
 givenOr [] old = old
@@ -32,5 +32,5 @@ refusedOr zero n = n
 refusedOr (suc k) n = suc k
 
 -- The result of a solution.
-abbrev pub solutionNumber : Said → ℕ
-solutionNumber s = refusedOr (s .number) (noneNumber (s .values))
+abbrev pub solutionResult : Said → ℕ
+solutionResult s = refusedOr (s .number) (noneResult (s .values))

@@ -5,7 +5,7 @@ ghost use lib.ListN.{length};
 ghost use mathlib.Core.Path.{_≡_};
 ghost use Rattle.laws.specs.Lent.{Stored};
 ghost use Rattle.hull.specs.Points.{many, laid};
-ghost use Rattle.numbers_out.specs.Maps.{mapOf, elevenOf, mappedNumber, mappedLeft};
+ghost use Rattle.numbers_out.specs.Maps.{mapOf, elevenOf, mappedResult, mappedAfter};
 ghost use Rattle.numbers_out.specs.Maps.{pixelAt, pixelsOf};
 use transform::Mapped;
 use transform::Transform;
@@ -50,8 +50,8 @@ pub fn eleven(t: Transform) -> [f64; 11]
 
 // A transform, where there is one.
 pub fn put_mapped(answer: Mapped, t: &mut [f64; 11]) -> u32
-    ensures { λ r. ⌜ r ≡ mappedNumber answer ⌝ }
-    ensures { λ _. ⌜ now (t .exit) ≡ mappedLeft answer (now (t .entry)) ⌝ }
+    ensures { λ r. ⌜ r ≡ mappedResult answer ⌝ }
+    ensures { λ _. ⌜ now (t .exit) ≡ mappedAfter answer (now (t .entry)) ⌝ }
 {
     match answer {
         Mapped::Some(m) => {

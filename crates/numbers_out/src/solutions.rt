@@ -2,7 +2,7 @@
 ghost use mathlib.Core.Path.{_≡_};
 ghost use Rattle.math.specs.Answers.{solutionSaid};
 ghost use Rattle.medians.specs.Median.{said};
-ghost use Rattle.numbers_out.specs.Solutions.{valueLeft, givenOr, refusedOr, solutionNumber};
+ghost use Rattle.numbers_out.specs.Solutions.{valueAfter, givenOr, refusedOr, solutionResult};
 use math::Found;
 use math::Solution;
 use medians::Answer;
@@ -10,7 +10,7 @@ use medians::Answer;
 // A median or a spread.
 pub fn put_number(answer: Answer, to: &mut f32) -> u32
     ensures { λ r. ⌜ r ≡ said answer .number ⌝ }
-    ensures { λ _. ⌜ now (to .exit) ≡ valueLeft (said answer .values) (now (to .entry)) ⌝ }
+    ensures { λ _. ⌜ now (to .exit) ≡ valueAfter (said answer .values) (now (to .entry)) ⌝ }
 {
     match answer {
         Answer::Number(x) => {
@@ -33,7 +33,7 @@ fn or_none(n: u8) -> u32
 
 // A solution, where there is one.
 pub fn put_solution(answer: Solution, x: &mut [f64; 8]) -> u32
-    ensures { λ r. ⌜ r ≡ solutionNumber (solutionSaid answer) ⌝ }
+    ensures { λ r. ⌜ r ≡ solutionResult (solutionSaid answer) ⌝ }
     ensures { λ _. ⌜
         now (x .exit) ≡ givenOr (solutionSaid answer .values) (now (x .entry)) ⌝ }
 {

@@ -19,7 +19,7 @@ use Rattle.outline.specs.Scan.{toward, columnLine, scanStep, scan, colum
 use Rattle.outline.specs.Scan.{AtMost}
 use Rattle.outline.proofs.Scans.{scan-begin, scan-more, scan-le, scan-stays, start-found, start-none, end-found}
 use Rattle.outline.proofs.Cuts.{member-cut}
-use Rattle.boundary.proofs.Joined.{joined-ext, joined-none}
+use Rattle.laws.proofs.Joined.{joined-ext, joined-none}
 
 -- ---- a run that is found stays found
 pub scan-early : (m : ℕ → Bool) (i n r : ℕ) → 4 ≤ r → r ≡ scan 4 m i → i ≤ n → r ≡ scan 4 m n

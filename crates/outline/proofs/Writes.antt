@@ -16,9 +16,10 @@ use lib.Ieee.Exact.{HasValue}
 use Rattle.laws.proofs.Stores.{map-append, stored-none, stored-append, stored-ext, stored-length, stored-laid}
 use Rattle.ieee.proofs.Vals.{mul-round}
 use Rattle.hull.specs.Points.{halfOf, numbersOf, floatsOf, laid}
-use Rattle.boundary.proofs.Joined.{joined-more, joined-add, joined-ext, joined-le}
+use Rattle.laws.proofs.Joined.{joined-more, joined-add, joined-ext, joined-le}
 use Rattle.boundary.specs.Runs.{runStart, runEnd, edges}
-use Rattle.boundary.specs.Boundary.{joined, rowPoints, columnPoints, rowsFrom, columnsFrom}
+use Rattle.boundary.specs.Boundary.{rowPoints, columnPoints, rowsFrom, columnsFrom}
+use Rattle.laws.specs.Fold.{joined}
 use Rattle.outline.specs.Scan.{columnFound, Wrote}
 
 -- ---- a line has two points or none

@@ -12,7 +12,8 @@ use Rattle.levels.specs.Level.{cells}
 use Rattle.regions.specs.Cells.{cells8}
 use Rattle.hull.specs.Points.{floatsOf}
 use Rattle.boundary.specs.Runs.{runStart, runEnd}
-use Rattle.boundary.specs.Boundary.{counts, joined}
+use Rattle.boundary.specs.Boundary.{counts}
+use Rattle.laws.specs.Fold.{joined}
 use Rattle.outline.specs.declared.rows.Extremes.{Extremes}
 use Rattle.outline.specs.declared.rows.Extremes.the-variants.{Ends, NoRun}
 

@@ -1,22 +1,17 @@
 -- What C functions answer and leave in their out-parameters, by what a door or an entry gives: 0 and the value; 255 and the old one where
 -- there is none; a refusal's number and the old one. Definitions only. Assumes nothing.
-use mathlib.Core.List.{List, [], _∷_}
+use mathlib.Core.List.{List}
 use Prim.Native.Nat.{ℕ, zero, suc}
 use lib.ListN.{length}
 use lib.Ieee.{Float}
-use Rattle.hull.specs.declared.points.Quad.{Quad}
 use Rattle.outline.specs.Door.{checkOutline, doorPoints, answered, listAfter}
 use Rattle.outline.specs.declared.Answer.{Answer}
 use Rattle.outline.specs.declared.Answer.the-variants as outline
 
 -- By the result: the value, or the old one.
-abbrev pub leftAs : {A : Type 0} → ℕ → A → A → A
-leftAs zero new old = new
-leftAs (suc n) new old = old
-
--- The eight numbers of a quad's corners.
-abbrev pub eightOf : Quad → List Float
-eightOf q = q .a .x ∷ q .a .y ∷ q .b .x ∷ q .b .y ∷ q .c .x ∷ q .c .y ∷ q .d .x ∷ q .d .y ∷ []
+abbrev pub afterBy : {A : Type 0} → ℕ → A → A → A
+afterBy zero new old = new
+afterBy (suc n) new old = old
 
 -- ---- the outline door
 
@@ -27,15 +22,15 @@ outlineAnswer s levels labels want w h x0 y0 x1 y1 room =
     (length (doorPoints want w s levels labels x0 y0 x1 y1))
 
 -- The lent list after the call.
-abbrev pub outlineLeft : List ℕ → List ℕ → List ℕ → ℕ → ℕ → ℕ → ℕ → ℕ → ℕ → ℕ → List Float → List Float
-outlineLeft s levels labels want w h x0 y0 x1 y1 old =
+abbrev pub outlineAfter : List ℕ → List ℕ → List ℕ → ℕ → ℕ → ℕ → ℕ → ℕ → ℕ → ℕ → List Float → List Float
+outlineAfter s levels labels want w h x0 y0 x1 y1 old =
     listAfter (checkOutline w h (length s) x0 y0 x1 y1 (length levels) (length labels) (length old))
     (doorPoints want w s levels labels x0 y0 x1 y1) old
 
-abbrev pub outlineNumber : Answer → ℕ
-outlineNumber (outline.Points n) = 0
-outlineNumber (outline.Refused n) = n
+abbrev pub outlineResult : Answer → ℕ
+outlineResult (outline.Points n) = 0
+outlineResult (outline.Refused n) = n
 
-abbrev pub pointsLeft : Answer → ℕ → ℕ
-pointsLeft (outline.Points n) old = n
-pointsLeft (outline.Refused n) old = old
+abbrev pub pointsAfter : Answer → ℕ → ℕ
+pointsAfter (outline.Points n) old = n
+pointsAfter (outline.Refused n) old = old

@@ -10,7 +10,8 @@ use Rattle.regions.specs.Door.{noRegion}
 abbrev pub sixOf : Region → List ℕ
 sixOf r = r .label ∷ r .cells ∷ r .x0 ∷ r .y0 ∷ r .x1 ∷ r .y1 ∷ []
 
--- How many regions there are, how many are kept, and four regions.
+-- How many regions there are, how many are kept, and four regions. The remainder is of a number of 64 bits that goes into one of 32; no
+-- picture has as many regions.
 abbrev pub regionNumbers : Kept → List ℕ
 regionNumbers k =
     k .all % 4294967296 ∷ k .kept % 4294967296 ∷ sixOf (getD (k .list) 0 noRegion) ++ sixOf (getD (k .list) 1 noRegion)

@@ -1,13 +1,15 @@
 // The outline door's answer, and a quad's corners as eight numbers.
 ghost use mathlib.Core.Path.{_≡_};
-ghost use Rattle.pictures_out.specs.Answers.{outlineNumber, pointsLeft, eightOf};
+ghost use Rattle.pictures_out.specs.Answers.{outlineResult, pointsAfter};
+ghost use Rattle.hull.specs.Quad.{valuesOf};
+ghost use Rattle.hull.specs.declared.points.Corners.the-variants.{Found};
 use hull::points::Quad;
 use outline::Answer;
 
 // How many points there are.
 pub fn put_many(answer: Answer, points: &mut usize) -> u32
-    ensures { λ r. ⌜ r ≡ outlineNumber answer ⌝ }
-    ensures { λ _. ⌜ now (points .exit) ≡ pointsLeft answer (now (points .entry)) ⌝ }
+    ensures { λ r. ⌜ r ≡ outlineResult answer ⌝ }
+    ensures { λ _. ⌜ now (points .exit) ≡ pointsAfter answer (now (points .entry)) ⌝ }
 {
     match answer {
         Answer::Points(n) => {
@@ -20,7 +22,7 @@ pub fn put_many(answer: Answer, points: &mut usize) -> u32
 
 // The eight numbers of a quad.
 pub fn numbers(q: Quad) -> [f32; 8]
-    ensures { λ r. ⌜ r ≡ eightOf q ⌝ }
+    ensures { λ r. ⌜ r ≡ valuesOf (Found q) ⌝ }
 {
     let a = q.a;
     let b = q.b;

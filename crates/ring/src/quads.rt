@@ -14,9 +14,9 @@ ghost use Rattle.ring.specs.Trace.{betterOf, triedOf};
 
 // What an attempt looked at and found.
 pub struct Trace {
-    // vertices of the hull
+    // vertices of the hull that was searched: of the points, straightened where there is a lens
     pub hull: usize,
-    // the quad that was searched, clockwise, in pixels; or none
+    // the quad that was searched, in pixels, straightened where there is a lens; or none
     pub quad: Corners,
     // the scores of the versions tried, in version order
     pub scores: Scores,

@@ -5,8 +5,8 @@ use Prim.Native.Nat.{ℕ, _%_}
 use lib.ListN.{replicate}
 use lib.IntN.{pos}
 use lib.Ieee.{Float, binary32, binary64, ofBits, ofInt}
-use Rattle.laws.specs.Fold.{bit}
-use Rattle.boundary.specs.Boundary.{joined}
+use Rattle.laws.specs.Fold.{bit, joined}
+use Rattle.hull.specs.Quad.{valuesOf}
 use Rattle.hull.specs.declared.points.Corners.{Corners}
 use Rattle.hull.specs.declared.points.Corners.the-variants.{Found, NoQuad}
 use Rattle.search.specs.declared.versions.Score.{Score}
@@ -15,9 +15,9 @@ use Rattle.accept.specs.declared.Fix.{Fix}
 use Rattle.accept.specs.declared.Fixed.{Fixed}
 use Rattle.accept.specs.declared.Fixed.the-variants.{At, NoFix}
 use Rattle.numbers_out.specs.Maps.{elevenOf}
-use Rattle.pictures_out.specs.Answers.{eightOf}
 
--- A score's numbers: version, agreement, corner, and 1 where the ring runs backwards, else 0.
+-- A score's numbers: version, agreement, corner, and 1 where the ring runs backwards, else 0. A corner is 0 to 3, so that the remainder is
+-- the corner itself.
 abbrev pub fourOf : Score → List Float
 fourOf s =
     ofInt binary32 (pos (s .version)) ∷ s .agreement ∷ ofInt binary32 (pos (s .corner % 4)) ∷ ofInt binary32 (pos (bit (s .mirrored))) ∷ []
@@ -45,7 +45,7 @@ ringOf NoFix = replicate 15 (ofBits binary64 0)
 
 -- A quad's numbers, all 0 where there is none, and whether there is one.
 abbrev pub cornersOf : Corners → List Float
-cornersOf (Found q) = eightOf q
+cornersOf (Found q) = valuesOf (Found q)
 cornersOf NoQuad = replicate 8 (ofBits binary32 0)
 
 abbrev pub isFound : Corners → Bool

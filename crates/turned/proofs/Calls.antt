@@ -33,20 +33,9 @@ use Rattle.regions.specs.declared.answer.PictureAnswer.{PictureAnswer}
 use Rattle.regions.specs.declared.answer.Region.{Region}
 use Rattle.hull.specs.Points.{floatsOf, laid}
 use Rattle.boundary.specs.Runs.{edges}
-use Rattle.boundary.specs.Boundary.{
-  memberOf,
-  isMember,
-  memberAt,
-  joined,
-  across,
-  down,
-  rowPoints,
-  columnPoints,
-  rowsFrom,
-  columnsFrom,
-  boundary,
-  outlineOf,
-}
+use Rattle.boundary.specs.Boundary.{memberOf, isMember, memberAt, across, down}
+use Rattle.boundary.specs.Boundary.{rowPoints, columnPoints, rowsFrom, columnsFrom, boundary, outlineOf}
+use Rattle.laws.specs.Fold.{joined}
 use Rattle.boundary.proofs.Runs.{edges-ext}
 use Rattle.boundary.proofs.Boundary.{Within}
 use Rattle.boundary.proofs.Members.{member-lists}

@@ -3,7 +3,7 @@
 -- Assumes nothing.
 use lib.ListN.{length}
 use Prim.Native.Nat.{_-_, _≤_}
-use Rattle.boundary.proofs.Laying.{Laying, laying-begin, laying-turn, laying-end}
+use Rattle.laws.proofs.Laying.{Laying, laying-begin, laying-turn, laying-end}
 use Rattle.rings_out.specs.Rings.{rowAt}
 use borrow.Author.Needs.{needs}
 use Rattle.rings_out.proofs.put_scores.Statement.{statement}

@@ -1,7 +1,7 @@
 -- `exports::cells::lcr_edge_and_offset` meets its contract. Assumes nothing.
 use mathlib.Core.Path.{ap, _∙_}
 use Rattle.lcr_core.specs.Doors.{edgeAnswer}
-use Rattle.border_out.specs.Cells.{edgeNumber, edgeLeft, offsetLeft}
+use Rattle.border_out.specs.Cells.{edgeResult, edgeAfter, offsetAfter}
 use Rattle.exports.proofs.Signed.{at-cell}
 use denote.Ref.{now}
 use borrow.Author.Needs.{needs}
@@ -19,10 +19,10 @@ returns c =
     let a = c .before .before .before .before in
     let e = c .before .before .before .edge-and-offset .ensures
     ∙ at-cell (edgeAnswer (a .args .version)) (a .args .x) (a .args .y) (a .fits .x) (a .fits .y) in (
-      c .put-edge .ensures .0 ∙ ap edgeNumber e,
+      c .put-edge .ensures .0 ∙ ap edgeResult e,
       (
-        c .put-edge .ensures .1 .0 ∙ ap (λ s. edgeLeft s (now (a .args .edge))) e,
-        c .put-edge .ensures .1 .1 ∙ ap (λ s. offsetLeft s (now (a .args .offset))) e,
+        c .put-edge .ensures .1 .0 ∙ ap (λ s. edgeAfter s (now (a .args .edge))) e,
+        c .put-edge .ensures .1 .1 ∙ ap (λ s. offsetAfter s (now (a .args .offset))) e,
       ),
     )
 

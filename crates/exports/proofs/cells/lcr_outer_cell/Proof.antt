@@ -1,6 +1,6 @@
 -- `exports::cells::lcr_outer_cell` meets its contract. Assumes nothing.
 use mathlib.Core.Path.{ap, _∙_}
-use Rattle.border_out.specs.Cells.{cellNumber, xLeft, yLeft}
+use Rattle.border_out.specs.Cells.{cellResult, xAfter, yAfter}
 use denote.Ref.{now}
 use borrow.Author.Needs.{needs}
 use Rattle.exports.proofs.cells.lcr_outer_cell.Statement.{statement}
@@ -16,10 +16,10 @@ returns : tie.Need-returns
 returns c =
     let a = c .before .before .before .before in
     let e = c .before .before .before .outer-cell .ensures in (
-      c .put-cell .ensures .0 ∙ ap cellNumber e,
+      c .put-cell .ensures .0 ∙ ap cellResult e,
       (
-        c .put-cell .ensures .1 .0 ∙ ap (λ s. xLeft s (now (a .args .x))) e,
-        c .put-cell .ensures .1 .1 ∙ ap (λ s. yLeft s (now (a .args .y))) e,
+        c .put-cell .ensures .1 .0 ∙ ap (λ s. xAfter s (now (a .args .x))) e,
+        c .put-cell .ensures .1 .1 ∙ ap (λ s. yAfter s (now (a .args .y))) e,
       ),
     )
 

@@ -1,7 +1,7 @@
 -- `exports::cells::lcr_position` meets its contract. Assumes nothing.
 use mathlib.Core.Path.{ap, _∙_}
 use Rattle.lcr_core.specs.Doors.{placeAnswer}
-use Rattle.border_out.specs.Cells.{placeNumber, placeLeft}
+use Rattle.border_out.specs.Cells.{placeResult, placeAfter}
 use Rattle.exports.proofs.Signed.{at-cell}
 use denote.Ref.{now}
 use borrow.Author.Needs.{needs}
@@ -19,8 +19,8 @@ returns c =
     let a = c .before .before .before in
     let e = c .before .before .position .ensures
     ∙ at-cell (placeAnswer (a .args .version)) (a .args .x) (a .args .y) (a .fits .x) (a .fits .y) in (
-      c .put-place .ensures .0 ∙ ap placeNumber e,
-      c .put-place .ensures .1 ∙ ap (λ s. placeLeft s (now (a .args .position))) e,
+      c .put-place .ensures .0 ∙ ap placeResult e,
+      c .put-place .ensures .1 ∙ ap (λ s. placeAfter s (now (a .args .position))) e,
     )
 
 pub lcr-position-spec : {M : Type 1} → statement M

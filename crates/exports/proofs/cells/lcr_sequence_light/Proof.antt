@@ -1,6 +1,6 @@
 -- `exports::cells::lcr_sequence_light` meets its contract. Assumes nothing.
 use mathlib.Core.Path.{ap, _∙_}
-use Rattle.border_out.specs.Cells.{markNumber, markLeft}
+use Rattle.border_out.specs.Cells.{markResult, markAfter}
 use denote.Ref.{now}
 use borrow.Author.Needs.{needs}
 use Rattle.exports.proofs.cells.lcr_sequence_light.Statement.{statement}
@@ -16,8 +16,8 @@ returns : tie.Need-returns
 returns c =
     let a = c .before .before .before in
     let e = c .before .before .sequence-light .ensures in (
-      c .put-mark .ensures .0 ∙ ap markNumber e,
-      c .put-mark .ensures .1 ∙ ap (λ s. markLeft s (now (a .args .light))) e,
+      c .put-mark .ensures .0 ∙ ap markResult e,
+      c .put-mark .ensures .1 ∙ ap (λ s. markAfter s (now (a .args .light))) e,
     )
 
 pub lcr-sequence-light-spec : {M : Type 1} → statement M

@@ -1,7 +1,7 @@
 -- `exports::cells::lcr_shell` meets its contract. Assumes nothing.
 use mathlib.Core.Path.{ap, _∙_}
 use Rattle.lcr_core.specs.Doors.{shellAnswer}
-use Rattle.border_out.specs.Cells.{depthNumber, depthLeft}
+use Rattle.border_out.specs.Cells.{depthResult, depthAfter}
 use Rattle.exports.proofs.Signed.{at-cell}
 use denote.Ref.{now}
 use borrow.Author.Needs.{needs}
@@ -19,8 +19,8 @@ returns c =
     let a = c .before .before .before in
     let e = c .before .before .shell .ensures
     ∙ at-cell (shellAnswer (a .args .version)) (a .args .x) (a .args .y) (a .fits .x) (a .fits .y) in (
-      c .put-depth .ensures .0 ∙ ap depthNumber e,
-      c .put-depth .ensures .1 ∙ ap (λ s. depthLeft s (now (a .args .depth))) e,
+      c .put-depth .ensures .0 ∙ ap depthResult e,
+      c .put-depth .ensures .1 ∙ ap (λ s. depthAfter s (now (a .args .depth))) e,
     )
 
 pub lcr-shell-spec : {M : Type 1} → statement M

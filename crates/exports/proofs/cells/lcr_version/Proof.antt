@@ -1,7 +1,7 @@
 -- `exports::cells::lcr_version` meets its contract. Assumes nothing.
 use mathlib.Core.Path.{ap, _∙_}
 use denote.Ref.{now}
-use Rattle.border_out.specs.Cells.{versionNumber, sideLeft, positionsLeft}
+use Rattle.border_out.specs.Cells.{versionResult, sideAfter, positionsAfter}
 use borrow.Author.Needs.{needs}
 use Rattle.exports.proofs.cells.lcr_version.Statement.{statement}
 use Rattle.exports.proofs.cells.lcr_version.Tie as tie
@@ -16,10 +16,10 @@ returns : tie.Need-returns
 returns c =
     let a = c .before .before .before .before in
     let e = c .before .before .before .new .ensures in (
-      c .put-version .ensures .0 ∙ ap versionNumber e,
+      c .put-version .ensures .0 ∙ ap versionResult e,
       (
-        c .put-version .ensures .1 .0 ∙ ap (λ s. sideLeft s (now (a .args .side))) e,
-        c .put-version .ensures .1 .1 ∙ ap (λ s. positionsLeft s (now (a .args .positions))) e,
+        c .put-version .ensures .1 .0 ∙ ap (λ s. sideAfter s (now (a .args .side))) e,
+        c .put-version .ensures .1 .1 ∙ ap (λ s. positionsAfter s (now (a .args .positions))) e,
       ),
     )
 

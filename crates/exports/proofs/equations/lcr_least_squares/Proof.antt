@@ -2,7 +2,7 @@
 use mathlib.Core.Path.{ap, _∙_}
 use denote.Ref.{now}
 use Rattle.math.specs.Answers.{Said}
-use Rattle.numbers_out.specs.Solutions.{givenOr, solutionNumber}
+use Rattle.numbers_out.specs.Solutions.{givenOr, solutionResult}
 use borrow.Author.Needs.{needs}
 use Rattle.exports.proofs.equations.lcr_least_squares.Statement.{statement}
 use Rattle.exports.proofs.equations.lcr_least_squares.Tie as tie
@@ -17,7 +17,7 @@ returns : tie.Need-returns
 returns c =
     let a = c .before .before .before .before .before .args in
     let e = c .before .before .least-squares .ensures in (
-      c .put-solution .ensures .0 ∙ ap solutionNumber e,
+      c .put-solution .ensures .0 ∙ ap solutionResult e,
       c .put-solution .ensures .1 ∙ ap (λ (s : Said). givenOr (s .values) (now (a .x))) e,
     )
 

@@ -2,7 +2,7 @@
 use mathlib.Core.Path.{ap, _∙_}
 use denote.Ref.{now}
 use Rattle.math.specs.Answers.{Said}
-use Rattle.numbers_out.specs.Solutions.{valueLeft}
+use Rattle.numbers_out.specs.Solutions.{valueAfter}
 use borrow.Author.Needs.{needs}
 use Rattle.exports.proofs.equations.lcr_mad_sigma.Statement.{statement}
 use Rattle.exports.proofs.equations.lcr_mad_sigma.Tie as tie
@@ -18,7 +18,7 @@ returns c =
     let a = c .before .before .before .before .args in
     let e = c .before .before .mad-sigma .ensures in (
       c .put-number .ensures .0 ∙ ap (λ (s : Said). s .number) e,
-      c .put-number .ensures .1 ∙ ap (λ (s : Said). valueLeft (s .values) (now (a .sigma))) e,
+      c .put-number .ensures .1 ∙ ap (λ (s : Said). valueAfter (s .values) (now (a .sigma))) e,
     )
 
 pub lcr-mad-sigma-spec : {M : Type 1} → statement M

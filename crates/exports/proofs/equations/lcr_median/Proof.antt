@@ -2,7 +2,7 @@
 use mathlib.Core.Path.{sym, ap, _∙_, subst}
 use denote.Ref.{now}
 use Rattle.math.specs.Answers.{Said}
-use Rattle.numbers_out.specs.Solutions.{valueLeft, ValuesLeft}
+use Rattle.numbers_out.specs.Solutions.{valueAfter, ValuesAfter}
 use Rattle.numbers_out.proofs.Handed.{left-by}
 use borrow.Author.Needs.{needs}
 use Rattle.exports.proofs.equations.lcr_median.Statement.{statement}
@@ -25,8 +25,8 @@ returns c =
     let r = c .put-number .ensures in (
       r .0 ∙ ap (λ (s : Said). s .number) (d .ensures .0),
       (
-        r .1 ∙ ap (λ (s : Said). valueLeft (s .values) (now (a .median))) (d .ensures .0),
-        subst (λ n. ValuesLeft n (now (a .values)) (d .last .0)) (sym (r .0))
+        r .1 ∙ ap (λ (s : Said). valueAfter (s .values) (now (a .median))) (d .ensures .0),
+        subst (λ n. ValuesAfter n (now (a .values)) (d .last .0)) (sym (r .0))
             (left-by (d .result) (now (a .values)) (d .last .0) (d .ensures .1)),
       ),
     )

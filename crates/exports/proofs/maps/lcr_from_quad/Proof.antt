@@ -1,7 +1,7 @@
 -- `exports::maps::lcr_from_quad` meets its contract. Assumes nothing.
 use mathlib.Core.Path.{ap, _∙_}
 use denote.Ref.{now}
-use Rattle.numbers_out.specs.Maps.{mappedNumber, mappedLeft}
+use Rattle.numbers_out.specs.Maps.{mappedResult, mappedAfter}
 use borrow.Author.Needs.{needs}
 use Rattle.exports.proofs.maps.lcr_from_quad.Statement.{statement}
 use Rattle.exports.proofs.maps.lcr_from_quad.Tie as tie
@@ -16,7 +16,7 @@ returns : tie.Need-returns
 returns c =
     let a = c .before .before .before .before .before .args in
     let e = c .before .before .from-quad .ensures in
-    (c .put-mapped .ensures .0 ∙ ap mappedNumber e, c .put-mapped .ensures .1 ∙ ap (λ s. mappedLeft s (now (a .t))) e)
+    (c .put-mapped .ensures .0 ∙ ap mappedResult e, c .put-mapped .ensures .1 ∙ ap (λ s. mappedAfter s (now (a .t))) e)
 
 pub lcr-from-quad-spec : {M : Type 1} → statement M
 lcr-from-quad-spec = tie.close (tie.spec from-quad-requires put-mapped-requires returns)

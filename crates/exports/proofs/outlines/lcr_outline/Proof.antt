@@ -1,7 +1,7 @@
 -- `exports::outlines::lcr_outline` meets its contract. Assumes nothing.
 use mathlib.Core.Path.{ap, _∙_}
 use denote.Ref.{now}
-use Rattle.pictures_out.specs.Answers.{outlineNumber, pointsLeft}
+use Rattle.pictures_out.specs.Answers.{outlineResult, pointsAfter}
 use borrow.Author.Needs.{needs}
 use Rattle.exports.proofs.outlines.lcr_outline.Statement.{statement}
 use Rattle.exports.proofs.outlines.lcr_outline.Tie as tie
@@ -19,8 +19,8 @@ returns : tie.Need-returns
 returns c =
     let a = c .before .before .before .before .before .before .before .before .before .before .args in
     let d = c .before .before .before .before .outline .ensures in (
-      c .put-many .ensures .0 ∙ ap outlineNumber (d .0),
-      (c .put-many .ensures .1 ∙ ap (λ s. pointsLeft s (now (a .points))) (d .0), d .1),
+      c .put-many .ensures .0 ∙ ap outlineResult (d .0),
+      (c .put-many .ensures .1 ∙ ap (λ s. pointsAfter s (now (a .points))) (d .0), d .1),
     )
 
 pub lcr-outline-spec : {M : Type 1} → statement M

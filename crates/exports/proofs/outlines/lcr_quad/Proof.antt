@@ -1,5 +1,6 @@
 -- `exports::outlines::lcr_quad` meets its contract. Assumes nothing.
 use mathlib.Core.Path.{refl, _∙_}
+use Rattle.hull.specs.Quad.{valuesOf}
 use Rattle.exports.proofs.Leaves.{quad-found, quad-none}
 use borrow.Author.Needs.{needs}
 use Rattle.exports.proofs.outlines.lcr_quad.Statement.{statement}
@@ -18,6 +19,7 @@ enum-told : tie.Need-enum-told
 enum-told c = search needs
 
 returns : tie.Need-returns
+unfolding valuesOf
 returns c =
     let e = quad-found _ _ _ (c .before .before .before .before .quad .ensures) (c .before .before .q .given .1) in
     (rw e, c .numbers .ensures ∙ rw e)

@@ -2,7 +2,7 @@
 -- The invariant: the pixels of the places so far are stored, `Laying`. The measure is how many places are left. Assumes nothing.
 use Prim.Native.Nat.{_-_}
 use denote.Ref.{now}
-use Rattle.boundary.proofs.Laying.{Laying, laying-begin, laying-turn, laying-end}
+use Rattle.laws.proofs.Laying.{Laying, laying-begin, laying-turn, laying-end}
 use Rattle.numbers_out.specs.Maps.{pixelAt}
 use Rattle.numbers_out.proofs.Handed.{pixels-laid}
 use borrow.Author.Needs.{needs}

@@ -1,11 +1,11 @@
--- `exports::marks_exports::lcr_classify` meets its contract. Assumes nothing.
+-- `exports::poses::lcr_classify` meets its contract. Assumes nothing.
 use mathlib.Core.Path.{ap, _∙_}
 use denote.Ref.{now}
 use Rattle.marks.specs.Doors.{marksAfter}
-use Rattle.border_out.specs.Poses.{classifyNumber}
+use Rattle.border_out.specs.Poses.{classifyResult}
 use borrow.Author.Needs.{needs}
-use Rattle.exports.proofs.marks_exports.lcr_classify.Statement.{statement}
-use Rattle.exports.proofs.marks_exports.lcr_classify.Tie as tie
+use Rattle.exports.proofs.poses.lcr_classify.Statement.{statement}
+use Rattle.exports.proofs.poses.lcr_classify.Tie as tie
 
 classify-requires : tie.Need-classify-requires
 classify-requires c κs = search needs
@@ -20,7 +20,7 @@ returns : tie.Need-returns
 returns c =
     let a = c .before .before .before .before .before .before .before in
     let d = c .before .before .before .classify .ensures in (
-      c .number-of .ensures ∙ ap classifyNumber (d .0),
+      c .number-of .ensures ∙ ap classifyResult (d .0),
       d .1 ∙ ap (λ s. marksAfter s (now (a .args .lumas)) (now (a .args .marks))) (d .0),
     )
 

@@ -1,12 +1,12 @@
--- `exports::marks_exports::lcr_correlate` meets its contract. Assumes nothing.
+-- `exports::poses::lcr_correlate` meets its contract. Assumes nothing.
 use mathlib.Core.Path.{ap, _∙_}
 use denote.Ref.{now}
 use Rattle.marks.specs.Pose.{countsOf}
-use Rattle.border_out.specs.Poses.{bestNumber, scoreLeft, cornerLeft, reversedLeft, countsLeft}
+use Rattle.border_out.specs.Poses.{bestResult, scoreAfter, cornerAfter, reversedAfter, countsAfter}
 use Rattle.exports.proofs.MarkLaws.{counts-beside}
 use borrow.Author.Needs.{needs}
-use Rattle.exports.proofs.marks_exports.lcr_correlate.Statement.{statement}
-use Rattle.exports.proofs.marks_exports.lcr_correlate.Tie as tie
+use Rattle.exports.proofs.poses.lcr_correlate.Statement.{statement}
+use Rattle.exports.proofs.poses.lcr_correlate.Tie as tie
 
 correlate-requires : tie.Need-correlate-requires
 correlate-requires c κs = search needs
@@ -22,15 +22,15 @@ returns c =
     let best = d .result .best in
     let s = now (a .marks) in
     let old = now (a .counts) in (
-      p .0 ∙ ap bestNumber (d .ensures .0),
+      p .0 ∙ ap bestResult (d .ensures .0),
       (
-        p .1 .0 ∙ ap (λ b. scoreLeft b (now (a .score))) (d .ensures .0),
+        p .1 .0 ∙ ap (λ b. scoreAfter b (now (a .score))) (d .ensures .0),
         (
-          p .1 .1 .0 ∙ ap (λ b. cornerLeft b (now (a .corner))) (d .ensures .0),
+          p .1 .1 .0 ∙ ap (λ b. cornerAfter b (now (a .corner))) (d .ensures .0),
           (
-            p .1 .1 .1 .0 ∙ ap (λ b. reversedLeft b (now (a .reversed))) (d .ensures .0),
-            p .1 .1 .1 .1 ∙ ap (λ k. countsLeft best k old) (d .ensures .1) ∙ counts-beside best (a .version) s old
-                ∙ ap (λ b. countsLeft b (countsOf (a .version) s) old) (d .ensures .0),
+            p .1 .1 .1 .0 ∙ ap (λ b. reversedAfter b (now (a .reversed))) (d .ensures .0),
+            p .1 .1 .1 .1 ∙ ap (λ k. countsAfter best k old) (d .ensures .1) ∙ counts-beside best (a .version) s old
+                ∙ ap (λ b. countsAfter b (countsOf (a .version) s) old) (d .ensures .0),
           ),
         ),
       ),

@@ -3,14 +3,14 @@ ghost use mathlib.Core.Path.{_≡_};
 ghost use lib.ListN.{length};
 ghost use Rattle.marks.specs.Pose.{countsOf};
 ghost use Rattle.marks.specs.Doors.{classifyAnswer, marksAfter, correlateAnswer};
-ghost use Rattle.border_out.specs.Poses.{classifyNumber, bestNumber};
-ghost use Rattle.border_out.specs.Poses.{scoreLeft, cornerLeft, reversedLeft, countsLeft};
+ghost use Rattle.border_out.specs.Poses.{classifyResult, bestResult};
+ghost use Rattle.border_out.specs.Poses.{scoreAfter, cornerAfter, reversedAfter, countsAfter};
 
 // Light or dark at each position, from its luma.
 #[no_mangle]
 pub extern "C" fn lcr_classify(version: u8, lumas: &[f32], marks: &mut [bool]) -> u32
     ensures { λ r. ⌜
-        r ≡ classifyNumber (classifyAnswer version (now (lumas .entry)) (now (marks .entry))) ⌝ }
+        r ≡ classifyResult (classifyAnswer version (now (lumas .entry)) (now (marks .entry))) ⌝ }
     ensures { λ _. ⌜
         now (marks .exit)
         ≡ marksAfter (classifyAnswer version (now (lumas .entry)) (now (marks .entry)))
@@ -29,19 +29,19 @@ pub extern "C" fn lcr_correlate(
     reversed: &mut bool,
     counts: &mut [u16; 8],
 ) -> u32
-    ensures { λ r. ⌜ r ≡ bestNumber (correlateAnswer version (now (marks .entry))) ⌝ }
+    ensures { λ r. ⌜ r ≡ bestResult (correlateAnswer version (now (marks .entry))) ⌝ }
     ensures { λ _. ⌜
         now (score .exit)
-        ≡ scoreLeft (correlateAnswer version (now (marks .entry))) (now (score .entry)) ⌝ }
+        ≡ scoreAfter (correlateAnswer version (now (marks .entry))) (now (score .entry)) ⌝ }
     ensures { λ _. ⌜
         now (corner .exit)
-        ≡ cornerLeft (correlateAnswer version (now (marks .entry))) (now (corner .entry)) ⌝ }
+        ≡ cornerAfter (correlateAnswer version (now (marks .entry))) (now (corner .entry)) ⌝ }
     ensures { λ _. ⌜
         now (reversed .exit)
-        ≡ reversedLeft (correlateAnswer version (now (marks .entry))) (now (reversed .entry)) ⌝ }
+        ≡ reversedAfter (correlateAnswer version (now (marks .entry))) (now (reversed .entry)) ⌝ }
     ensures { λ _. ⌜
         now (counts .exit)
-        ≡ countsLeft (correlateAnswer version (now (marks .entry)))
+        ≡ countsAfter (correlateAnswer version (now (marks .entry)))
         (countsOf version (now (marks .entry))) (now (counts .entry)) ⌝ }
 {
     let answer = marks::correlate::correlate(version, marks);

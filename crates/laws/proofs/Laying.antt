@@ -8,9 +8,9 @@ use Prim.Native.Nat.{ℕ, zero, suc, _+_, _*_, _≤_, _<_}
 use native.Mathlib.Nat.{mul-zero}
 use native.Mathlib.Omega.{arith}
 use lib.ListN.{length}
 use Rattle.laws.specs.Lent.{Stored}
 use Rattle.laws.proofs.Stores.{stored-none, stored-append, stored-length}
-use Rattle.boundary.specs.Boundary.{joined}
+use Rattle.laws.specs.Fold.{joined}
 
 pub record Laying {A : Type 0} (m n : ℕ) (f : ℕ → List A) (old new : List A) (i : ℕ) : Type 0 where
   pub stored : Stored 0 (joined i f) old new (m * i)
