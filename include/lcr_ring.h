@@ -31,7 +31,7 @@
  * STATE. Nothing is allocated and nothing is kept between calls, so that calls on different memory may run at the
  * same time in any threads. Floats are IEEE 754 in round to nearest, which the calling thread must have set, with
  * subnormals on. A NaN has no fixed bits. Working memory that is not lent is on the stack: random calls use up to
- * 40 KB of it (oracle/outside/guards measures), and a median of 4,096 values may go as many levels of 48 bytes deep.
+ * 33 KB of it (oracle/outside/guards measures), and a median of 4,096 values may go as many levels of 48 bytes deep.
  * A thread that calls should have 256 KB free.
  */
 #ifndef LCR_RING_H
