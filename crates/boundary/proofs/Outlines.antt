@@ -16,6 +16,7 @@ use Rattle.whole.specs.Hull.{walk, hull}
 use Rattle.whole.specs.Quad.{quad, Far, OneTop}
 use Rattle.whole.proofs.Hulls.{hull-run, start-least}
 use Rattle.whole.proofs.IsHull.{IsHull, hull-is}
+use Rattle.whole.proofs.Clockwise.{quad-clockwise}
 use Rattle.regions.specs.Cells.{groupsOf, groupSize}
 use Rattle.regions.specs.Kept.{keptCount, keptLabel}
 use Rattle.regions.specs.Boxes.{regionBox}
@@ -176,7 +177,7 @@ module _ (m : Move) (W H : ℕ) (posW : 0 < W) (posH : 0 < H) (lessW : 16 * W �
   pub hull-once : NoDup (ptsOf (hullPoints L′)) × Clockwise (ptsOf (hullPoints L′))
   hull-once = rw (hull-exact L′ small′) (once (ptsOf L′))
 
-  -- The quad is none in both, or has the moved corners, clockwise from some corner.
+  -- The quad is none in both, or has the moved corners; and it runs clockwise, with no condition.
   pub quad-of : (a c : Pt) → Far (ptsOf (hullPoints L)) a c → OneTop (ptsOf (hullPoints L)) a c → OneTop (ptsOf (hullPoints L)) c a
       → Rot (movedRound m w h (ptsOf (quadPoints (hullPoints L)))) (ptsOf (quadPoints (hullPoints L′)))
   quad-of a c f o o′ =
@@ -184,3 +185,6 @@ module _ (m : Move) (W H : ℕ) (posW : 0 < W) (posH : 0 < H) (lessW : 16 * W �
       rw (quad-both L small, quad-both L′ small′)
       (quad-round m w h (ptsOf L) (ptsOf L′) (same-of m w h (ptsOf L) (ptsOf L′) (points-of m W H posW posH p p′ same untied i l k)) a c
       (rw e at f) (rw e at o) (rw e at o′))
+
+  pub quad-round-of : Clockwise (ptsOf (quadPoints (hullPoints L′)))
+  quad-round-of = rw (quad-both L′ small′) (quad-clockwise (hull (ptsOf L′)))

@@ -1,4 +1,5 @@
--- The kept groups where groups are numbered anew: as many, and the i-th is the i-th's new number, where no two wanted sizes are equal.
+-- Groups that are numbered anew: there are as many, as many are kept, and the i-th kept is the i-th's new number, where no two wanted
+-- sizes are equal.
 -- Assumes nothing.
 use mathlib.Core.Path.{_≡_, refl, sym, _∙_, ap}
 use mathlib.Core.Logic.{_⊎_, inl, inr, ⊎-elim}
@@ -142,6 +143,11 @@ anew-back {s} {m} {s′} {m′} {r} {r′} q = record {
 unfoldable pub Untied : (ℕ → ℕ) → ℕ → Type 0
 Untied s m = (a b : ℕ) → a < m → b < m → want s a ≡ true → want s b ≡ true → s a ≡ s b → a ≡ b
 
+count-every : (n : ℕ) → count (λ _. true) n ≡ n
+unfolding count
+count-every zero = refl
+count-every (suc n) = omega (arith, count-yes (λ _. true) n refl, count-every n)
+
 module _ {s : ℕ → ℕ} {m : ℕ} {s′ : ℕ → ℕ} {m′ : ℕ} {r r′ : ℕ → ℕ} (q : Anew s m s′ m′ r r′) where
   one : (a b : ℕ) → a < m → b < m → r a ≡ r b → a ≡ b
   one a b h k e = sym (q .again a h) ∙ (ap r′ e ∙ q .again b k)
@@ -152,6 +158,10 @@ module _ {s : ℕ → ℕ} {m : ℕ} {s′ : ℕ → ℕ} {m′ : ℕ} {r r′ :
 
   pub wanted-le : count (want s) m ≤ count (want s′) m′
   wanted-le = count-into (want s) m (want s′) m′ r (λ a h w. (q .to a h, want-to a h ∙ w)) (λ a b h k w u e. one a b h k e)
+
+  many-le : m ≤ m′
+  many-le = let z = count-into (λ _. true) m (λ _. true) m′ r (λ a h w. (q .to a h, refl)) (λ a b h k w u e. one a b h k e) in
+      omega (arith, count-every m, count-every m′, z)
 
   pub untied-to : Untied s m → Untied s′ m′
   unfolding Untied want
@@ -177,6 +187,9 @@ module _ {s : ℕ → ℕ} {m : ℕ} {s′ : ℕ → ℕ} {m′ : ℕ} {r r′ :
       (λ b c k l t v e. one b c k l e)
 
 module _ {s : ℕ → ℕ} {m : ℕ} {s′ : ℕ → ℕ} {m′ : ℕ} {r r′ : ℕ → ℕ} (q : Anew s m s′ m′ r r′) where
+  pub many-same : m′ ≡ m
+  many-same = let x = many-le q in let y = many-le (anew-back q) in omega arith
+
   pub wanted-same : count (want s′) m′ ≡ count (want s) m
   wanted-same = let x = wanted-le q in let y = wanted-le (anew-back q) in omega arith
 

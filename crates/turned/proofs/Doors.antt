@@ -13,7 +13,7 @@ use Rattle.laws.proofs.Planes.{plane-drawn}
 use Rattle.laws.proofs.Moves.{place-within, sides-times}
 use Rattle.levels.specs.Level.{cells, level, inkOf, inkAt}
 use Rattle.regions.specs.Labels.{label}
-use Rattle.regions.specs.Cells.{cells8, cell, inkCell, cellLabel, labelAt}
+use Rattle.regions.specs.Cells.{cells8, cell, inkCell, cellLabel, labelAt, groupsOf}
 use Rattle.regions.specs.Kept.{keptCount, keptLabel}
 use Rattle.regions.specs.Boxes.{regionBox}
 use Rattle.regions.specs.Door.{region, keptRegions}
@@ -68,6 +68,10 @@ some-label p w h x y l = go (inkCell p w h (cell (cells8 w) x y)) refl
 swap : (a b c d a′ b′ c′ d′ : ℕ) → a ≡ a′ → b ≡ b′ → c ≡ c′ → d ≡ d′ → (a′ ≡ b′) ↔ (c′ ≡ d′) → (a ≡ b) ↔ (c ≡ d)
 swap a b c d a′ b′ c′ d′ ea eb ec ed f =
     (λ e. ec ∙ f .0 (sym ea ∙ e ∙ eb) ∙ sym ed, λ e. ea ∙ f .1 (sym ec ∙ e ∙ ed) ∙ sym eb)
+
+-- how many regions were answered in all
+all-is : (s : List ℕ) (w h : ℕ) (c : Pictured s w h) → c .answer .regions .all ≡ groupsOf (plane w s) w h
+all-is s w h c = ap (λ (k : Kept). k .all) (regions-is s w h c) ∙ unfold keptRegions in refl
 
 module _ (m : Move) (W H : ℕ) (s : List ℕ) (c : Pictured s (16 * W) (16 * H)) (s′ : List ℕ)
     (c′ : Pictured s′ (wideOf m (16 * W) (16 * H)) (highOf m (16 * W) (16 * H))) (t : Taken W H s)
@@ -241,6 +245,7 @@ module _ (m : Move) (W H : ℕ) (s : List ℕ) (c : Pictured s (16 * W) (16 * H)
     ink = ink;
     unlabelled = unlabelled;
     groups = groups;
+    all = all-is s′ w′ h′ c′ ∙ claim .many ∙ sym (all-is s w h c);
     kept = kept-is′ ∙ claim .kept ∙ sym kept-is;
     regions = λ i l. regions i (subst (λ (n : ℕ). i < n) kept-is l);
     outlines = λ i l. outlines i (subst (λ (n : ℕ). i < n) kept-is l);

@@ -83,7 +83,7 @@ pub record OutlinesAlike (m : Move) (w h : ℕ) (l l′ : List Float) : Type 0 w
   pub hull : Rot (movedRound m w h (ptsOf vertices)) (ptsOf vertices′) × NoDup (ptsOf vertices′) × Clockwise (ptsOf vertices′)
       × Starts (ptsOf vertices′) (ptsOf points′)
   pub quad : (a b : Pt) → Far (ptsOf vertices) a b → OneTop (ptsOf vertices) a b → OneTop (ptsOf vertices) b a
-      → Rot (movedRound m w h (ptsOf corners)) (ptsOf corners′)
+      → Rot (movedRound m w h (ptsOf corners)) (ptsOf corners′) × Clockwise (ptsOf corners′)
 
 -- A picture s of w by h, which are 16 × W and 16 × H, with a call c, and a picture s′ of w′ by h′ with a call c′.
 module _ (m : Move) (W H : ℕ) (s : List ℕ) (c : Pictured s (16 * W) (16 * H)) (s′ : List ℕ)
@@ -123,6 +123,7 @@ module _ (m : Move) (W H : ℕ) (s : List ℕ) (c : Pictured s (16 * W) (16 * H)
     pub unlabelled : (x y : ℕ) → x < cells8 w → y < cells8 h → (labelled x y ≡ 0) ↔ (labelled′ x y ≡ 0)
     pub groups : (x y u v : ℕ) → x < cells8 w → y < cells8 h → u < cells8 w → v < cells8 h → 0 < labelled x y → 0 < labelled u v
         → (labelled x y ≡ labelled u v) ↔ (labelled′ x y ≡ labelled′ u v)
+    pub all : c′ .answer .regions .all ≡ c .answer .regions .all
     pub kept : c′ .answer .regions .kept ≡ c .answer .regions .kept
     pub regions : (i : ℕ) → i < c .answer .regions .kept → RegionsAlike (regionOf s w h c i) (regionOf s′ w′ h′ c′ i)
     pub outlines : (i : ℕ) → i < c .answer .regions .kept

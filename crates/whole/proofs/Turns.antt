@@ -107,7 +107,7 @@ Ge c a b = NN (cross c a b) × (cross c a b ≡ 𝟘 → NN (d2 c a ⊕ neg (d2 
 abbrev pub At : Pt → Pt → Pt → Type 0
 At f c p = (p ≡ c) ⊎ PP (lin f c p)
 
-less0 : (a : ℤ) → a ⊕ neg 𝟘 ≡ a
+pub less0 : (a : ℤ) → a ⊕ neg 𝟘 ≡ a
 unfolding 𝟘
 less0 a = solve (a ∷ []) (𝕧 0 :- 𝕜 (pos 0)) (𝕧 0) refl
 
