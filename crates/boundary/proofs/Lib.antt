@@ -1,4 +1,5 @@
 pub mod Runs
+pub mod OneRun
 pub mod Boundary
 pub mod Points
 pub mod Outlines

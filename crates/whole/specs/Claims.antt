@@ -1,10 +1,10 @@
--- What the outline of whole points does under every move, for every list of points, and that a quad runs clockwise (x right, y down).
--- Statements only. Assumes nothing.
+-- What hull and quad of whole points are, for every list of points, and what they do under every move. Statements only. Assumes nothing.
 use mathlib.Core.List.{List, map}
 use Prim.Native.Nat.{ℕ}
 use Rattle.laws.specs.Move.{Move}
 use Rattle.whole.specs.Points.{Pt, Rot, Clockwise}
 use Rattle.whole.specs.Hull.{hull}
+use Rattle.whole.specs.IsHull.{IsHull}
 use Rattle.whole.specs.Quad.{quad, Far, OneTop}
 use Rattle.whole.specs.Moves.{pointOf, movedRound, Same}
 
@@ -19,6 +19,10 @@ pub record OutlineMoved (m : Move) (w h : ℕ) (P Q : List Pt) : Type 0 where
 unfoldable pub OutlinesMoved : Type 0
 OutlinesMoved = (m : Move) (w h : ℕ) (P Q : List Pt) → Same (map (pointOf m w h) P) Q → OutlineMoved m w h P Q
 
--- The quad of every list of points, be it a hull or not, runs clockwise; none is the empty list, which has no corners
+-- The walk gives the hull of its points
+unfoldable pub HullsAre : Type 0
+HullsAre = (P : List Pt) → IsHull P (hull P)
+
+-- The quad of every list of points, be it a hull or not, runs clockwise (x right, y down); none is the empty list, which has no corners
 unfoldable pub QuadsClockwise : Type 0
 QuadsClockwise = (H : List Pt) → Clockwise (quad H)
