@@ -5,3 +5,4 @@ pub mod Points
 pub mod Outlines
 pub mod Members
 pub mod Controls
+pub mod Sheared
