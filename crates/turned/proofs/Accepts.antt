@@ -31,7 +31,7 @@ use Rattle.regions.specs.declared.answer.Region.{Region}
 use Rattle.regions.proofs.Regions.{region-cell, region-in}
 use Rattle.outline.specs.Door.{checkOutline}
 use Rattle.turned.specs.Claims.{Taken}
-use Rattle.turned.specs.Doors.{Pictured, regionOf, checkedFor}
+use Rattle.turned.specs.Calls.{Pictured, regionOf, checkedFor}
 use Rattle.turned.specs.Accepts.{DoorsAccept}
 use Rattle.turned.proofs.Calls.{regions-is, region-is, grid-room, label-room}
 

@@ -9,7 +9,7 @@ use Rattle.levels.specs.Level.{cells}
 use Rattle.regions.specs.Cells.{cellsOf}
 use Rattle.regions.specs.Door.{checkGrids}
 use Rattle.turned.specs.Claims.{Taken}
-use Rattle.turned.specs.Doors.{Pictured, regionOf, checkedFor}
+use Rattle.turned.specs.Calls.{Pictured, regionOf, checkedFor}
 
 pub record DoorsAccept : Type 0 where
   -- The moved picture is taken, with the moved sides: these are 16 times those of the level cells.

@@ -89,8 +89,7 @@ module _ (m : Move) (W H : ℕ) (p p′ : Plane) where
       × (regionBox p′ w′ h′ (keptLabel p′ w′ h′ i) ≡ boxOf m w h (regionBox p w h (keptLabel p w h i)))
       × (keptCells p′ w′ h′ i ≡ keptCells p w h i)
 
-  -- The boundary points of the i-th kept region of each picture, with runs of 4 or more, the hulls of these, and the
-  -- quads.
+  -- The boundary points of the i-th kept region of each picture, with runs of 4 or more, the hulls of these, and their quads.
   abbrev pub points : ℕ → List (ℕ × ℕ)
   points i = outlineOf 4 p w h (keptLabel p w h i)
 
