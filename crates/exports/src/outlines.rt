@@ -4,10 +4,10 @@ ghost use mathlib.Core.Path.{_≡_};
 ghost use mathlib.Core.Bool.{cond};
 ghost use lib.Dec.{ltb};
 ghost use lib.ListN.{length};
+ghost use Rattle.laws.specs.Said.{resultOf, leftOf};
 ghost use Rattle.hull.specs.Points.{many, laid};
 ghost use Rattle.hull.specs.Hull.{hullOf, hullFloats};
-ghost use Rattle.hull.specs.Quad.{quadFloats};
-ghost use Rattle.numbers_out.specs.Solutions.{noneResult, givenOr};
+ghost use Rattle.hull.specs.Quad.{quadFloats, quadSaid};
 ghost use Rattle.pictures_out.specs.Answers.{
   outlineAnswer,
   outlineAfter,
@@ -85,10 +85,10 @@ pub extern "C" fn lcr_convex_hull(points: &[f32], out: &mut [f32], vertices: &mu
 // The quad of the vertices of a hull.
 #[no_mangle]
 pub extern "C" fn lcr_quad(vertices: &[f32], quad: &mut [f32; 8]) -> u32
-    ensures { λ r. ⌜ r ≡ noneResult (quadFloats (now (vertices .entry))) ⌝ }
+    ensures { λ r. ⌜ r ≡ resultOf (quadSaid (quadFloats (now (vertices .entry)))) ⌝ }
     ensures { λ _. ⌜
         now (quad .exit)
-        ≡ givenOr (quadFloats (now (vertices .entry))) (now (quad .entry)) ⌝ }
+        ≡ leftOf (quadSaid (quadFloats (now (vertices .entry)))) (now (quad .entry)) ⌝ }
 {
     match hull::quad(vertices) {
         Corners::Found(q) => {

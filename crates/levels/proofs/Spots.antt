@@ -5,12 +5,12 @@
 use mathlib.Core.Logic.{_⊎_, inl, inr}
 use mathlib.Core.Path.{_∙_, _≡_, ap, refl}
 use Prim.Native.Nat.{_*_, _+_, _<_, _≤_, suc, zero, ℕ}
-use native.Mathlib.Nat.{add-assoc, add-comm, zero-add}
+use native.Mathlib.Nat.{zero-add}
 use native.Mathlib.Numerals.{add-one}
 use native.Mathlib.Omega.{arith}
 use lib.Dec.{eqb}
 use borrow.Author.Tests.{ne-eqb}
-use Rattle.laws.proofs.Folds.{fold-ext, fold-join}
+use Rattle.laws.proofs.Boxes.{box-add}
 use Rattle.laws.proofs.Planes.{box-ext}
 use Rattle.laws.specs.Fold.{bit, fold, sumTo}
 use Rattle.laws.specs.Plane.{Plane, box, boxRow}
@@ -19,16 +19,7 @@ use Rattle.levels.proofs.Turned.{hist-box}
 use Rattle.levels.specs.Level.{cut, dark, fromTop, hist, inBin, light, span}
 use Rattle.levels.specs.Spots.{Spotted}
 
--- ---- sums over a box
-pub box-add : (f g : Plane) (x0 y0 lx ly : ℕ)
-    → box _+_ 0 (λ x y. f x y + g x y) x0 y0 lx ly ≡ box _+_ 0 f x0 y0 lx ly + box _+_ 0 g x0 y0 lx ly
-unfolding box boxRow
-box-add f g x0 y0 lx ly =
-    fold-ext _+_ 0 ly (λ j. sumTo lx (λ i. f (x0 + i) (y0 + j) + g (x0 + i) (y0 + j)))
-    (λ j. sumTo lx (λ i. f (x0 + i) (y0 + j)) + sumTo lx (λ i. g (x0 + i) (y0 + j)))
-    (λ j l. fold-join _+_ 0 add-comm add-assoc refl lx (λ i. f (x0 + i) (y0 + j)) (λ i. g (x0 + i) (y0 + j)))
-    ∙ fold-join _+_ 0 add-comm add-assoc refl ly (λ j. sumTo lx (λ i. f (x0 + i) (y0 + j))) (λ j. sumTo lx (λ i. g (x0 + i) (y0 + j)))
-
+-- ---- sums over a cell
 all-0 : (x0 y0 : ℕ) → box _+_ 0 (λ x y. 0) x0 y0 16 16 ≡ 0
 unfolding box boxRow fold
 all-0 x0 y0 = refl

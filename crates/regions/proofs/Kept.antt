@@ -11,7 +11,7 @@ use lib.Dec.{eqb, ltb, leb}
 use borrow.Author.Tests.{eq-eqb, ne-eqb, eqb-true, lt-ltb, ltb-true}
 use Rattle.laws.specs.Count.{count, least}
 use Rattle.laws.proofs.Bools.{both, and-left, and-right, either, or-left, or-right, which, clash}
-use Rattle.laws.proofs.Counts.{count-into, count-add, count-ext, count-yes, least-le, least-before, least-end}
+use Rattle.laws.proofs.Counts.{count-into, count-add, count-ext, count-yes, count-every, least-le, least-before, least-end}
 use Rattle.regions.specs.Kept.{place, nth, aheadBy, ahead, want, keptOf, keptAt}
 use Rattle.regions.proofs.Select.{Order, nth-is, place-one, place-under}
 
@@ -142,11 +142,6 @@ anew-back {s} {m} {s′} {m′} {r} {r′} q = record {
 -- No two wanted numbers have one size.
 unfoldable pub Untied : (ℕ → ℕ) → ℕ → Type 0
 Untied s m = (a b : ℕ) → a < m → b < m → want s a ≡ true → want s b ≡ true → s a ≡ s b → a ≡ b
-
-count-every : (n : ℕ) → count (λ _. true) n ≡ n
-unfolding count
-count-every zero = refl
-count-every (suc n) = omega (arith, count-yes (λ _. true) n refl, count-every n)
 
 module _ {s : ℕ → ℕ} {m : ℕ} {s′ : ℕ → ℕ} {m′ : ℕ} {r r′ : ℕ → ℕ} (q : Anew s m s′ m′ r r′) where
   one : (a b : ℕ) → a < m → b < m → r a ≡ r b → a ≡ b
