@@ -85,15 +85,15 @@ byte-at m w h s many bytes x y lx ly =
 moved-taken : (W H : ℕ) (s : List ℕ) → Taken W H s → (m : Move) → Taken (wideOf m W H) (highOf m W H) (movedBytes m (16 * W) (16 * H) s)
 moved-taken W H s t m =
     let sides = sides-times m 16 W H in
-    let r = within m W H 64 (t .wide, (let a = t .wide-most in omega arith)) (t .high, (let a = t .high-most in omega arith)) in
+    let r = within m (16 * W) (16 * H) _ ((let a = t .wide in omega arith), t .wide-most) ((let a = t .high in omega arith), t .high-most) in
     let w′ = wideOf m (16 * W) (16 * H) in
     let h′ = highOf m (16 * W) (16 * H) in
     let n = length-drawn w′ h′ (moved m (16 * W) (16 * H) (plane (16 * W) s)) in
     record {
-      wide = r .0;
-      wide-most = omega (arith, r .1);
-      high = r .2;
-      high-most = omega (arith, r .3);
+      wide = omega (arith, r .0, sides .0);
+      wide-most = omega (arith, r .1, sides .0);
+      high = omega (arith, r .2, sides .1);
+      high-most = omega (arith, r .3, sides .1);
       many = n ∙ ap₂ (λ (a b : ℕ). a * b) (sides .0) (sides .1);
       bytes = λ i l.
           let k : i < w′ * h′ = subst (λ (z : ℕ). i < z) n l in
