@@ -58,8 +58,10 @@ def main():
             while i + n < len(lines) and j + n < len(theirs) and lines[i + n][1] == theirs[j + n][1]:
                 n += 1
             past, found = i + n, found + 1
-            print("%s:%d: %d lines that stand at %s:%d\n    %s" % (os.path.relpath(path, root), lines[i][0], n, other, theirs[j][0], "\n    ".join(run)))
-    print(f"copies: {own} files beside {sum(map(bool, others.values()))} of the Rust and the kit: {found} runs of {LINES} or more equal lines")
+            print(f"{os.path.relpath(path, root)}:{lines[i][0]}: {n} lines that stand at {other}:{theirs[j][0]}")
+            print("    " + "\n    ".join(run))
+    read = sum(map(bool, others.values()))
+    print(f"copies: {own} files beside {read} of the Rust and the kit: {found} runs of {LINES} or more equal lines")
     sys.exit(found > 0)
 
 main()
