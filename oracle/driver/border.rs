@@ -101,9 +101,14 @@ fn stored() -> Vec<Call> {
     o
 }
 
+/// A number that is mostly no version, now and then past a byte.
+fn odd(r: &mut Rng) -> u32 {
+    if r.chance(0.5) { r.below(258) as u32 } else { r.next() as u32 }
+}
+
 fn random(r: &mut Rng) -> Call {
     let kind = r.range(100, 108) as u32;
-    let v = if r.chance(0.05) { r.below(256) as u32 } else { r.range(1, 64) as u32 };
+    let v = if r.chance(0.05) { odd(r) } else { r.range(1, 64) as u32 };
     let side = 17 + 4 * v as i64;
     if kind < 104 {
         let mut c = || match r.below(8) {

@@ -26,14 +26,6 @@ fn read(s: &[u8], from: usize, list: &mut [f32])
     }
 }
 
-// A greatest version as a byte, or 255 where it is more.
-fn version(v: u32) -> u8 {
-    if 255 < v {
-        return 255;
-    }
-    v as u8
-}
-
 // The text of an attempt, at the beginning of `out`, and how many bytes it has.
 pub fn text(record: &[u8], out: &mut [u8]) -> usize {
     if record.len() < 20 {
@@ -62,7 +54,7 @@ fn of_points(record: &[u8], gray: &[u8], points: &[f32], out: &mut [u8]) -> usiz
     let mut z = packed::list_room();
     let w = words::many(word_at(record, 0));
     let h = words::many(word_at(record, 4));
-    let most = version(word_at(record, 8));
+    let most = word_at(record, 8);
     let r = ring::door::attempt(gray, w, h, points, most, &mut x, &mut y, &mut z);
     lines::answered(r, out)
 }

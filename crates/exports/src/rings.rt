@@ -15,7 +15,7 @@ pub extern "C" fn lcr_attempt(
     width: usize,
     height: usize,
     points: &[f32],
-    most: u8,
+    most: u32,
     straight: &mut [f32],
     cand: &mut [f32],
     buf: &mut [f32],

@@ -168,7 +168,7 @@ fn best_pose(marks: &[bool], version: Version) -> Correlated
 }
 
 // The agreement of marks with the sequence of a version. Refusals: 8, then 11.
-pub fn correlate(version: u8, marks: &[bool]) -> Correlated
+pub fn correlate(version: u32, marks: &[bool]) -> Correlated
     ensures { λ r. ⌜ r .best ≡ correlateAnswer version (now (marks .entry)) ⌝ }
     ensures { λ r. ⌜ r .counts ≡ countsBeside (r .best) version (now (marks .entry)) ⌝ }
 {

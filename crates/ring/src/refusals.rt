@@ -55,7 +55,7 @@ fn coordinates(s: &[f32]) -> bool
 }
 
 // Whether a number is one of a version: 1 to 64.
-fn is_version(v: u8) -> bool
+fn is_version(v: u32) -> bool
     ensures { λ r. ⌜ r ≡ isVersion v ⌝ }
 {
     if v < 1 {
@@ -65,7 +65,7 @@ fn is_version(v: u8) -> bool
 }
 
 // The checks of the points, of the lengths a, b and c of the working lists, and of the version.
-fn check_points(s: &[f32], a: usize, b: usize, c: usize, most: u8) -> u32
+fn check_points(s: &[f32], a: usize, b: usize, c: usize, most: u32) -> u32
     ensures { λ r. ⌜ r ≡ checkPoints (now (s .entry)) a b c most ⌝ }
 {
     if !is_points(s.len()) {
@@ -92,7 +92,7 @@ pub fn check(
     a: usize,
     b: usize,
     c: usize,
-    most: u8,
+    most: u32,
 ) -> u32
     ensures { λ r. ⌜ r ≡ checkRing w h bytes (now (s .entry)) a b c most ⌝ }
 {

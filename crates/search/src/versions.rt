@@ -101,8 +101,8 @@ fn pose_of(version: u8, lumas: &[f32]) -> Best
 {
     let mut marks = mark_room();
     let n = lumas.len();
-    marks::classify::classify(version, lumas, &mut marks[..n]);
-    let c = marks::correlate::correlate(version, &marks[..n]);
+    marks::classify::classify(version as u32, lumas, &mut marks[..n]);
+    let c = marks::correlate::correlate(version as u32, &marks[..n]);
     c.best
 }
 
@@ -112,7 +112,7 @@ fn read_ring(gray: &[u8], w: usize, h: usize, t: Transform, version: u8) -> Scor
     requires { ⌜ IsVersion version ⌝ }
     ensures { λ r. ⌜ r ≡ readOf (now (gray .entry)) w h t version ⌝ }
 {
-    let VersionAnswer::Known(v) = Version::new(version) else {
+    let VersionAnswer::Known(v) = Version::new(version as u32) else {
         return no_score();
     };
     let mut lumas = luma_room();

@@ -1,8 +1,8 @@
--- `listing::text::put_spaced` meets its contract. Assumes nothing.
+-- `text::put_spaced` meets its contract. Assumes nothing.
 use Rattle.laws.proofs.Stores.{stored-append}
 use borrow.Author.Needs.{needs}
-use Rattle.listing.proofs.text.put_spaced.Statement.{statement}
-use Rattle.listing.proofs.text.put_spaced.Tie as tie
+use Rattle.text.proofs.put_spaced.Statement.{statement}
+use Rattle.text.proofs.put_spaced.Tie as tie
 
 put-byte-requires : tie.Need-put-byte-requires
 put-byte-requires c κs = search needs

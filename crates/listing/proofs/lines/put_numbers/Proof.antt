@@ -1,7 +1,7 @@
--- `listing::text::put_numbers` meets its contract. The loop's invariant: the first i numbers are stored, a space before
+-- `listing::lines::put_numbers` meets its contract. The loop's invariant: the first i numbers are stored, a space before
 -- each. The measure is what is left of the numbers. Assumes nothing.
 use mathlib.Core.List.{List}
-use Rattle.listing.proofs.Numbers.{spaced-none, spaced-more, spaced-room}
+use Rattle.listing.proofs.Numbers.{decimal-short, spaced-none, spaced-more, spaced-room}
 use Rattle.laws.proofs.Stores.{stored-none, stored-append, stored-ext, stored-length}
 use lib.ListN.{getD, length, take}
 use lib.Seq.{take-all}
@@ -10,10 +10,10 @@ use denote.Ref.{now}
 use native.Mathlib.Omega.{arith}
 use mathlib.Core.Path.{_≡_, ap, subst}
 use Rattle.laws.specs.Lent.{Stored}
-use Rattle.listing.specs.Text.{spaced}
+use Rattle.text.specs.Text.{spaced}
 use borrow.Author.Needs.{needs}
-use Rattle.listing.proofs.text.put_numbers.Statement.{statement}
-use Rattle.listing.proofs.text.put_numbers.Tie as tie
+use Rattle.listing.proofs.lines.put_numbers.Statement.{statement}
+use Rattle.listing.proofs.lines.put_numbers.Tie as tie
 
 abbrev Inv-loop : tie.InvT-loop
 Inv-loop out₀ at ns to₀ i₀ out to i = (i ≤ length ns) × Stored at (spaced (take i ns)) out₀ out to
@@ -32,21 +32,19 @@ mul-put-spaced c = search needs
 shared-slice-read-put-spaced : tie.Need-shared-slice-read-put-spaced Inv-loop μ-loop
 shared-slice-read-put-spaced c = search needs
 
+cast-put-spaced : tie.Need-cast-put-spaced Inv-loop μ-loop
+cast-put-spaced c =
+    let q = c .before .before .before .loop in
+    record { fits = omega (arith, c .before .before .before .before .before .before .pre .0 (q .i) (omega arith)) }
+
 put-spaced-requires : tie.Need-put-spaced-requires Inv-loop μ-loop
 put-spaced-requires c κs =
     let a = c .before .before .before .before .before .before .args in
     let q = c .before .before .before .loop in
-    let r = spaced-room (now (a .ns)) (c .before .before .before .before .before .before .pre .0) (q .i) (omega arith) in (
-      c .before .before .before .before .before .before .pre .0 (q .i) (omega arith),
-      omega (
-        arith,
-        r,
-        q .inv .1 .next,
-        stored-length (q
-            .inv .1),
-        c .before .before .before .before .before .before .pre .1,
-      ),
-    )
+    let p = c .before .before .before .before .before .before .pre in
+    let r = spaced-room (now (a .ns)) (p .0) (q .i) (omega arith) in
+    let d = decimal-short (getD (now (a .ns)) (q .i) 0) (p .0 (q .i) (omega arith)) in
+    omega (arith, r, d, q .inv .1 .next, stored-length (q .inv .1), p .1)
 
 add-i : tie.Need-add-i Inv-loop μ-loop
 add-i c = search needs
@@ -83,6 +81,7 @@ put-numbers-spec =
     loop-holds
     mul-put-spaced
     shared-slice-read-put-spaced
+    cast-put-spaced
     put-spaced-requires
     add-i
     loop-less

@@ -1,6 +1,5 @@
--- Lines of text in ASCII, as document 01 has them under "traylist": a word, then numbers with a space before each, then a line feed.
--- Definitions only.
--- Assumes nothing.
+-- Text in ASCII, as document 01 has it under "traylist": numbers in decimal and in hex, and lines of a word, of numbers with a space before
+-- each and of a line feed. Definitions only. Assumes nothing.
 use mathlib.Core.Bool.{cond}
 use mathlib.Core.List.{List, [], _∷_, _++_}
 use Prim.Native.Nat.{ℕ, zero, suc, _+_, _/_, _%_}
@@ -15,6 +14,15 @@ spelt (suc most) n = cond (ltb n 10) ((48 + n) ∷ []) (spelt most (n / 10) ++ (
 unfoldable pub decimal : ℕ → List ℕ
 decimal n = spelt (suc n) n
 
+-- The hex digit of a number below 16: 0 to 9, then a to f.
+unfoldable pub hexDigit : ℕ → ℕ
+hexDigit d = cond (ltb d 10) (48 + d) (87 + d)
+
+-- The last so many hex digits of n, the most significant first.
+unfoldable pub hex : ℕ → ℕ → List ℕ
+hex zero n = []
+hex (suc digits) n = hex digits (n / 16) ++ (hexDigit (n % 16) ∷ [])
+
 -- The numbers of a list, a space before each.
 unfoldable pub spaced : List ℕ → List ℕ
 spaced [] = []
@@ -24,22 +32,10 @@ spaced (n ∷ ns) = (32 ∷ decimal n) ++ spaced ns
 unfoldable pub lineOf : List ℕ → List ℕ → List ℕ
 lineOf word ns = word ++ (spaced ns ++ (10 ∷ []))
 
--- ---- the words
+-- ---- the words of more than one text
 -- refused
 abbrev pub refusedWord : List ℕ
 refusedWord = 114 ∷ 101 ∷ 102 ∷ 117 ∷ 115 ∷ 101 ∷ 100 ∷ []
-
--- regions
-abbrev pub regionsWord : List ℕ
-regionsWord = 114 ∷ 101 ∷ 103 ∷ 105 ∷ 111 ∷ 110 ∷ 115 ∷ []
-
--- region
-abbrev pub regionWord : List ℕ
-regionWord = 114 ∷ 101 ∷ 103 ∷ 105 ∷ 111 ∷ 110 ∷ []
-
--- outline
-abbrev pub outlineWord : List ℕ
-outlineWord = 111 ∷ 117 ∷ 116 ∷ 108 ∷ 105 ∷ 110 ∷ 101 ∷ []
 
 -- quad
 abbrev pub quadWord : List ℕ

@@ -1,8 +1,8 @@
--- `listing::text::put_word` meets its contract. The loop's invariant: the first i bytes of the word are stored. The
+-- `text::put_word` meets its contract. The loop's invariant: the first i bytes of the word are stored. The
 -- measure is what is left of the word. Assumes nothing.
 use lib.Seq.{length-take-le, take-all}
 use Rattle.laws.proofs.Stores.{stored-length}
-use Rattle.listing.proofs.Stores.{word-none, word-more}
+use Rattle.text.proofs.Words.{word-none, word-more}
 use Prim.Native.Nat.{ℕ, _-_, _≤_}
 use denote.Ref.{now}
 use native.Mathlib.Omega.{arith}
@@ -11,8 +11,8 @@ use mathlib.Core.Path.{_≡_, ap, subst}
 use Rattle.laws.specs.Lent.{Stored}
 use lib.ListN.{length, take}
 use borrow.Author.Needs.{needs}
-use Rattle.listing.proofs.text.put_word.Statement.{statement}
-use Rattle.listing.proofs.text.put_word.Tie as tie
+use Rattle.text.proofs.put_word.Statement.{statement}
+use Rattle.text.proofs.put_word.Tie as tie
 
 abbrev Inv-loop : tie.InvT-loop
 Inv-loop out₀ at word to₀ i₀ out to i = (i ≤ length word) × Stored at (take i word) out₀ out to
