@@ -1,5 +1,7 @@
 -- Laws of the record. Its head check by check: side-in, side-of, none-short to asked-all; small-area, area-small. The record by its head:
--- check-by, head-length, asked-yes, check-yes, asked-no, check-no, head-of, refuse-head, refuse-cut, check-whole. What an accepted record is: Accepted with accepted; its pixels, pixels-are; its sides and its picture, wide-is, high-is, long-is, tray-picture. Assumes nothing.
+-- check-by, head-length, asked-yes, check-yes, asked-no, check-no, head-of, refuse-head, refuse-cut, check-whole. What an accepted
+-- record is: Accepted with accepted; its pixels, pixels-are; its sides and its picture, wide-is, high-is, long-is, tray-picture.
+-- Assumes nothing.
 use mathlib.Core.Path.{_≡_, refl, sym, ap, ap₂, _∙_, subst}
 use mathlib.Core.Bool.{Bool, true, false, _&&_, cond}
 use mathlib.Core.List.{List}

@@ -33,7 +33,8 @@ more-stored n d above e v u =
 pub hex-end : (at k n : ℕ) (l : List ℕ) → k ≡ 0 → Stored at (hex k n) l l at
 hex-end at k n l e = stored-ext [] (hex k n) (hex-none n ∙ ap (λ (j : ℕ). hex j n) (sym e)) (stored-none at l)
 
-pub hex-stored : {at r r′ : ℕ} {l l′ l″ : List ℕ} (k n d : ℕ) → (k ≡ 0 → ⊥) → d ≡ hexDigit (n % 16) → Stored at (hex (k - 1) (n / 16)) l l′ r
+pub hex-stored : {at r r′ : ℕ} {l l′ l″ : List ℕ} (k n d : ℕ) → (k ≡ 0 → ⊥) → d ≡ hexDigit (n % 16) → Stored at (hex (k - 1) (n /
+    16)) l l′ r
     → Stored r (d ∷ []) l′ l″ r′ → Stored at (hex k n) l l″ r′
 hex-stored k n d some e v u =
     let z : suc (k - 1) ≡ k = omega (arith, some-more) in

@@ -50,7 +50,10 @@ put-hex-same-length : (t : ℕ) → put-hex-lts.Need-same-length (callees t) (pu
 put-hex-same-length t c = search needs
 
 put-hex-returns-2 : (t : ℕ) → put-hex-lts.Need-returns-2 (callees t) (put-hex-at t) put-hex.Post
-put-hex-returns-2 t c = hex-stored (c .before .before .before .before .before .before .before .before .before .before .before .args .digits) (c .before .before .before .before .before .before .before .before .before .before .before .args .n) _ (c .before .before .before .before .before .before .before .before .before .if1 .left) (c .before .before .before .hex-digit .ensures) (c .before .before .before .before .before .before .before .put-hex .ensures) (c .before .before .put-byte .ensures)
+put-hex-returns-2 t c = hex-stored (c .before .before .before .before .before .before .before .before .before .before .before .args
+    .digits) (c .before .before .before .before .before .before .before .before .before .before .before .args .n) _ (c .before
+    .before .before .before .before .before .before .before .before .if1 .left) (c .before .before .before .hex-digit .ensures) (c
+    .before .before .before .before .before .before .before .put-hex .ensures) (c .before .before .put-byte .ensures)
 
 pub +put-hex-spec : {M : Type 1} → statement M
 +put-hex-spec = close μ-put-hex λ t. put-hex-lts.spec (callees t)

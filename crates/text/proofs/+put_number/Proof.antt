@@ -39,7 +39,8 @@ put-number-same-length : (t : ℕ) → put-number-lts.Need-same-length (callees 
 put-number-same-length t c = search needs
 
 put-number-returns : (t : ℕ) → put-number-lts.Need-returns (callees t) (put-number-at t) put-number.Post
-put-number-returns t c = one-stored (c .before .before .before .before .before .before .before .args .n) _ (omega arith) (c .before .before .before .digit .ensures) (c .before .before .put-byte .ensures)
+put-number-returns t c = one-stored (c .before .before .before .before .before .before .before .args .n) _ (omega arith) (c .before
+    .before .before .digit .ensures) (c .before .before .put-byte .ensures)
 
 put-number-put-number-requires : (t : ℕ) → put-number-lts.Need-put-number-requires (callees t) (put-number-at t) put-number.Post
 put-number-put-number-requires t c κs =
@@ -58,7 +59,9 @@ put-number-same-length-2 : (t : ℕ) → put-number-lts.Need-same-length-2 (call
 put-number-same-length-2 t c = search needs
 
 put-number-returns-2 : (t : ℕ) → put-number-lts.Need-returns-2 (callees t) (put-number-at t) put-number.Post
-put-number-returns-2 t c = more-stored (c .before .before .before .before .before .before .before .before .before .before .before .args .n) _ (omega arith) (c .before .before .before .digit2 .ensures) (c .before .before .before .before .before .before .before .put-number .ensures) (c .before .before .put-byte2 .ensures)
+put-number-returns-2 t c = more-stored (c .before .before .before .before .before .before .before .before .before .before .before
+    .args .n) _ (omega arith) (c .before .before .before .digit2 .ensures) (c .before .before .before .before .before .before
+    .before .put-number .ensures) (c .before .before .put-byte2 .ensures)
 
 pub +put-number-spec : {M : Type 1} → statement M
 +put-number-spec = close μ-put-number λ t. put-number-lts.spec (callees t)

@@ -19,7 +19,13 @@ same-length : tie.Need-same-length
 same-length c = search needs
 
 returns : tie.Need-returns
-returns c = omega (arith, c .before .before .read-full .ensures .0, c .before .before .read-full .kept .1 .0, length-take-le 10 (c .before .before .before .before .before .args .bytes .now) (omega arith))
+returns c = omega (
+  arith,
+  c .before .before .read-full .ensures .0,
+  c .before .before .read-full .kept .1 .0,
+  length-take-le 10 (c
+      .before .before .before .before .before .args .bytes .now) (omega arith),
+)
 
 pub read-head-spec : {M : Type 1} → statement M
 read-head-spec =

@@ -24,8 +24,11 @@ returns : tie.Need-returns
 returns c =
     let h = c .before .before .before .before .before .before .before .before .read-head in
     let m = c .before .before .before .before .pixels-after in
-    let p = c .before .before .read-pixels in
-    (read-few (h .last .0) (p .last .0) (h .result) (m .result) (p .result) (h .ensures) (m .ensures .0) (p .ensures .0) (p .ensures .1), omega arith)
+    let p = c .before .before .read-pixels in (
+      read-few (h .last .0) (p .last .0) (h .result) (m .result) (p .result) (h .ensures) (m .ensures .0) (p .ensures .0) (p .ensures
+          .1),
+      omega arith,
+    )
 
 pub read-record-spec : {M : Type 1} → statement M
 read-record-spec =

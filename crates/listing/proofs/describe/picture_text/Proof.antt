@@ -85,7 +85,11 @@ all-regions-requires c κs =
             (omega arith) (o .ensures .1 .0) (o .ensures .1 .1 .0),
         (
           k .1,
-          line-next regionsWord _ 336 (two-short _ _ (omega (arith, f .0, f .1)) (omega (arith, f .0, f .1))) (omega (arith, e .pre .1)) (c .before .before
+          line-next regionsWord _ 336 (two-short _ _ (omega (arith, f .0, f .1)) (omega (arith, f .0, f .1))) (omega (
+            arith,
+            e .pre
+                .1,
+          )) (c .before .before
               .before .before .before .line .ensures),
         ),
       ),

@@ -16,10 +16,12 @@ add-if2 : tie.Need-add-if2
 add-if2 c = search needs
 
 returns-2 : tie.Need-returns-2
-returns-2 c = refuse-cut (now (c .before .before .before .before .args .s)) _ (c .before .before .pixels .ensures .0) (c .before .if1 .left) (omega arith)
+returns-2 c = refuse-cut (now (c .before .before .before .before .args .s)) _ (c .before .before .pixels .ensures .0) (c .before
+    .if1 .left) (omega arith)
 
 returns-3 : tie.Need-returns-3
-returns-3 c = check-whole (now (c .before .before .before .before .args .s)) _ (c .before .before .pixels .ensures .0) (c .before .if1 .left) (omega arith)
+returns-3 c = check-whole (now (c .before .before .before .before .args .s)) _ (c .before .before .pixels .ensures .0) (c .before
+    .if1 .left) (omega arith)
 
 pub check-spec : {M : Type 1} → statement M
 check-spec = tie.close (tie.spec pixels-requires returns add-if2 returns-2 returns-3)

@@ -37,9 +37,13 @@ returns-3 : tie.Need-returns-3
 returns-3 c =
     let s = now (c .before .before .before .before .before .before .before .before .args .head) in
     let long : 10 ≤ length s = omega arith in
-    let kind : pairAt s 4 ≡ 1 = sym (c .before .before .before .before .before .pair-at .ensures .0) ∙ c .before .before .before .before .if2 .left in
-    let u = c .before .is-side in
-    (none-wide s long kind (side-of (c .before .before .before .pair-at2 .ensures .0) (u .ensures) ∙ not-true (u .result) (c .if3 .taken)), omega arith)
+    let kind : pairAt s 4 ≡ 1 = sym (c .before .before .before .before .before .pair-at .ensures .0) ∙ c .before .before .before
+    .before .if2 .left in
+    let u = c .before .is-side in (
+      none-wide s long kind (side-of (c .before .before .before .pair-at2 .ensures .0) (u .ensures) ∙ not-true (u .result) (c .if3
+          .taken)),
+      omega arith,
+    )
 
 is-side-requires-2 : tie.Need-is-side-requires-2
 is-side-requires-2 c κs = search needs
@@ -48,11 +52,16 @@ returns-4 : tie.Need-returns-4
 returns-4 c =
     let s = now (c .before .before .before .before .before .before .before .before .before .before .args .head) in
     let long : 10 ≤ length s = omega arith in
-    let kind : pairAt s 4 ≡ 1 = sym (c .before .before .before .before .before .before .before .pair-at .ensures .0) ∙ c .before .before .before .before .before .before .if2 .left in
+    let kind : pairAt s 4 ≡ 1 = sym (c .before .before .before .before .before .before .before .pair-at .ensures .0) ∙ c .before
+    .before .before .before .before .before .if2 .left in
     let u = c .before .before .before .is-side in
     let v = c .before .is-side2 in
-    let wide = side-of (c .before .before .before .before .before .pair-at2 .ensures .0) (u .ensures) ∙ not-false (u .result) (c .before .before .if3 .left) in
-    (none-high s long kind wide (side-of (c .before .before .before .before .pair-at3 .ensures .0) (v .ensures) ∙ not-true (v .result) (c .if4 .taken)), omega arith)
+    let wide = side-of (c .before .before .before .before .before .pair-at2 .ensures .0) (u .ensures) ∙ not-false (u .result) (c
+    .before .before .if3 .left) in (
+      none-high s long kind wide (side-of (c .before .before .before .before .pair-at3 .ensures .0) (v .ensures) ∙ not-true (v
+          .result) (c .if4 .taken)),
+      omega arith,
+    )
 
 four-at-requires : tie.Need-four-at-requires
 four-at-requires c κs = search needs
@@ -63,7 +72,13 @@ mul-if5 c =
     let v = c .before .before .is-side2 in
     let wide = not-false (u .result) (c .before .before .before .if3 .left) in
     let high = not-false (v .result) (c .before .if4 .left) in
-    record { fits = omega (arith, area-small (c .before .before .before .before .before .before .pair-at2 .result) (c .before .before .before .before .before .pair-at3 .result) (u .ensures) wide (v .ensures) high) }
+    record {
+      fits = omega (
+        arith,
+        area-small (c .before .before .before .before .before .before .pair-at2 .result) (c .before
+            .before .before .before .before .pair-at3 .result) (u .ensures) wide (v .ensures) high,
+      );
+    }
 
 add-if5 : tie.Need-add-if5
 add-if5 c =
@@ -71,13 +86,20 @@ add-if5 c =
     let v = c .before .before .is-side2 in
     let wide = not-false (u .result) (c .before .before .before .if3 .left) in
     let high = not-false (v .result) (c .before .if4 .left) in
-    record { fits = omega (arith, area-small (c .before .before .before .before .before .before .pair-at2 .result) (c .before .before .before .before .before .pair-at3 .result) (u .ensures) wide (v .ensures) high) }
+    record {
+      fits = omega (
+        arith,
+        area-small (c .before .before .before .before .before .before .pair-at2 .result) (c .before
+            .before .before .before .before .pair-at3 .result) (u .ensures) wide (v .ensures) high,
+      );
+    }
 
 returns-5 : tie.Need-returns-5
 returns-5 c =
     let s = now (c .before .before .before .before .before .before .before .before .before .before .before .before .args .head) in
     let long : 10 ≤ length s = omega arith in
-    let kind : pairAt s 4 ≡ 1 = sym (c .before .before .before .before .before .before .before .before .before .pair-at .ensures .0) ∙ c .before .before .before .before .before .before .before .before .if2 .left in
+    let kind : pairAt s 4 ≡ 1 = sym (c .before .before .before .before .before .before .before .before .before .pair-at .ensures .0)
+    ∙ c .before .before .before .before .before .before .before .before .if2 .left in
     let u = c .before .before .before .before .before .is-side in
     let v = c .before .before .before .is-side2 in
     let x = c .before .before .before .before .before .before .before .pair-at2 .ensures .0 in
@@ -96,7 +118,8 @@ returns-6 : tie.Need-returns-6
 returns-6 c =
     let s = now (c .before .before .before .before .before .before .before .before .before .before .before .before .args .head) in
     let long : 10 ≤ length s = omega arith in
-    let kind : pairAt s 4 ≡ 1 = sym (c .before .before .before .before .before .before .before .before .before .pair-at .ensures .0) ∙ c .before .before .before .before .before .before .before .before .if2 .left in
+    let kind : pairAt s 4 ≡ 1 = sym (c .before .before .before .before .before .before .before .before .before .pair-at .ensures .0)
+    ∙ c .before .before .before .before .before .before .before .before .if2 .left in
     let u = c .before .before .before .before .before .is-side in
     let v = c .before .before .before .is-side2 in
     let x = c .before .before .before .before .before .before .before .pair-at2 .ensures .0 in
@@ -105,7 +128,8 @@ returns-6 c =
     let high = not-false (v .result) (c .before .before .if4 .left) in
     let said = sym (c .before .four-at .ensures) ∙ c .if5 .left ∙ ap₂ (λ (m n : ℕ). 6 + m * n) x y in (
       ap₂ (λ (m n : ℕ). m * n) x y ∙ asked-all s long kind (side-of x (u .ensures) ∙ wide) (side-of y (v .ensures) ∙ high) said,
-      area-small (c .before .before .before .before .before .before .before .pair-at2 .result) (c .before .before .before .before .before .before .pair-at3 .result) (u .ensures) wide (v .ensures) high,
+      area-small (c .before .before .before .before .before .before .before .pair-at2 .result) (c .before .before .before .before
+          .before .before .pair-at3 .result) (u .ensures) wide (v .ensures) high,
     )
 
 pub pixels-spec : {M : Type 1} → statement M

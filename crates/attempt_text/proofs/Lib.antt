@@ -1,0 +1,5 @@
+pub mod Parts
+pub mod Texts
+pub mod Records
+pub mod Few
+pub mod Wholes
