@@ -1,0 +1,31 @@
+-- The hull's door, with document 01's refusal 3: what `convex_hull` answers and leaves in the lent list. Definitions only. Assumes nothing.
+use mathlib.Core.List.{List}
+use Prim.Native.Nat.{ℕ}
+use lib.Dec.{leb}
+use lib.ListN.{length}
+use lib.Ieee.{Float}
+use Rattle.laws.specs.Check.{orRefuse}
+use Rattle.hull.specs.Points.{many, laid}
+use Rattle.hull.specs.Hull.{hullOf, hullFloats}
+use Rattle.hull.specs.declared.Hulled.{Hulled}
+use Rattle.hull.specs.declared.Hulled.the-variants.{Vertices, Refused}
+
+-- How many vertices the hull of the points l has. 3: a lent list of `room` places has fewer numbers than l
+abbrev pub hulled : List Float → ℕ → Hulled
+hulled l room =
+    orRefuse (leb (length l) room) (Refused 3)
+    (Vertices (length (hullOf l (many l))))
+
+-- The lent list after the call: the vertices in its first places and the rest untouched, or as it was
+abbrev pub verticesAfter : Hulled → List Float → List Float → List Float
+verticesAfter (Vertices n) l old = laid (hullFloats l) old
+verticesAfter (Refused n) l old = old
+
+-- Document 01's number of an answer, 0 for none; and its value, how many vertices, or the old one
+abbrev pub hulledNumber : Hulled → ℕ
+hulledNumber (Vertices n) = 0
+hulledNumber (Refused n) = n
+
+abbrev pub hulledOr : Hulled → ℕ → ℕ
+hulledOr (Vertices n) old = n
+hulledOr (Refused n) old = old
