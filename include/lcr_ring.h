@@ -20,8 +20,8 @@
  * that is read must hold 0 or 1.
  *
  * A list that belongs to a door and is too short is refused by LCR_LENT in the door's own order of checks.
- * One that only the C function has (out of lcr_convex_hull, xy of lcr_apply_all) is checked before all else, by
- * LCR_LENT too.
+ * One that only the C function has (xy of lcr_apply_all) is checked before all else,
+ * by LCR_LENT too.
  *
  * COORDINATES. Pixels from the picture's upper left corner, x to the right and y down: pixel (c, r) covers the
  * square from (c, r) to (c + 1, r + 1) and has its centre at + 0.5. Points in a list are x and y by turns. A

@@ -47,7 +47,7 @@ fn one_if_same(a: bool, b: bool) -> u16
 }
 
 // The place after this one, of n in a ring; backward where reversed.
-pub fn next_place(at: usize, n: usize, reversed: bool) -> usize
+fn next_place(at: usize, n: usize, reversed: bool) -> usize
     requires { ⌜ at < n ⌝ }
     requires { ⌜ n < 4096 ⌝ }
     ensures within { λ r. ⌜ r < n ⌝ }
@@ -146,10 +146,10 @@ fn best_of(counts: [u16; 8]) -> usize
 }
 
 // Count / positions.
-pub fn score_of(version: Version, count: u16) -> f32
+fn score_of(version: Version, count: u16) -> f32
     ensures { λ r. ⌜ r ≡ score (version .0) count ⌝ }
 {
-    let n = 16 * (version.get() as u16) + 88;
+    let n = version.positions() as u16;
     (count as f32) / (n as f32)
 }
 

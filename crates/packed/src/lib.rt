@@ -21,7 +21,7 @@ pub fn list_room() -> [f32; 32770]
 }
 
 // The j-th byte of a word, lowest first; the highest from 3 on.
-pub fn part(word: u32, j: usize) -> u8 {
+fn part(word: u32, j: usize) -> u8 {
     if j == 0 {
         return (word % 256) as u8;
     }
@@ -35,7 +35,7 @@ pub fn part(word: u32, j: usize) -> u8 {
 }
 
 // The byte at a place of words; 0 past their end.
-pub fn byte(words: &[u32], k: usize) -> u8 {
+fn byte(words: &[u32], k: usize) -> u8 {
     if words.len() <= k / 4 {
         return 0;
     }

@@ -89,7 +89,7 @@ fn read(kind: u32, args: &[u32], gray: &[u8], w: usize, h: usize, out: &mut [u32
     if kind == 901 {
         return lumas(gray, w, h, transform_calls::map(&args[4..]), v, out);
     }
-    if 64 < v {
+    if (Version::MAX as u32) < v {
         return 0;
     }
     let g = Goal {

@@ -20,7 +20,10 @@ use Rattle.whole.specs.Points.{Pt, Rot}
 use Rattle.whole.specs.Moves.{pointOf, movedRound}
 use Rattle.hull.specs.Points.{many, ptOf, ptsOf, numbersOf, floatsOf, laid}
 use Rattle.hull.specs.Hull.{hullOf, hullFloats, hullPoints}
+use Rattle.hull.specs.Door.{verticesAfter}
 use Rattle.hull.specs.Quad.{valuesOf}
+use Rattle.hull.specs.declared.Hulled.{Hulled}
+use Rattle.hull.specs.declared.Hulled.the-variants.{Vertices}
 use Rattle.hull.specs.declared.points.Corners.{Corners}
 use Rattle.hull.specs.declared.points.Corners.the-variants.{Found, NoQuad}
 use Rattle.outline.proofs.Writes.{length-floats}
@@ -29,23 +32,27 @@ use Rattle.marks.specs.Pose.{MarkMove, MarksMoved, cornerTo, reversedTo, agreem
 use Rattle.marks.specs.Doors.{correlateAnswer, markedPose, countsBeside}
 use Rattle.marks.specs.declared.correlate.Best.{Best}
 use Rattle.marks.proofs.PosesMoved.{poses-moved}
-use Rattle.turned.specs.Calls.{Hulled, verticesOf, Agreed}
+use Rattle.turned.specs.Calls.{HullCall, countOf, verticesOf, CorrelateCall}
 use Rattle.turned.specs.Doors.{countAt, MarkDoorMoved}
 use Rattle.turned.proofs.Floats.{many-floats, hull-floats}
 
 -- ---- vertices
 
-module _ (L : List (ℕ × ℕ)) (l : List Float) (e : l ≡ floatsOf L) (k : Hulled l) where
-  pub count-is : k .count ≡ length (hullPoints L)
+module _ (L : List (ℕ × ℕ)) (l : List Float) (e : l ≡ floatsOf L) (k : HullCall l) where
+  answered : k .answer ≡ Vertices (length (hullOf l (many l)))
+  answered = k .answer-is ∙ rw (le-leb (length l) (length (k .lent)) (k .accepted))
+
+  pub count-is : countOf (k .answer) ≡ length (hullPoints L)
   unfolding hullPoints
   count-is =
-      k .count-is ∙ ap (λ (x : List Float). length (hullOf x (many x))) e
+      ap countOf answered ∙ ap (λ (x : List Float). length (hullOf x (many x))) e
       ∙ ap (λ (n : ℕ). length (hullOf (floatsOf L) n)) (many-floats L)
       ∙ sym (length-map (hullOf (floatsOf L) (length L)) (λ i. getD L i (0, 0)))
 
   pub vertices-is : verticesOf l k ≡ floatsOf (hullPoints L)
   vertices-is =
-      ap₂ (λ (n : ℕ) (x : List Float). take (2 * n) x) count-is (k .list-is ∙ ap (λ (x : List Float). laid x (k .lent)) vertices)
+      ap₂ (λ (n : ℕ) (x : List Float). take (2 * n) x) count-is
+      (k .list-is ∙ ap (λ (h : Hulled). verticesAfter h l (k .lent)) answered ∙ ap (λ (x : List Float). laid x (k .lent)) vertices)
       ∙ take-at (floatsOf (hullPoints L)) (drop (length (floatsOf (hullPoints L))) (k .lent)) (2 * length (hullPoints L))
       (length-floats (hullPoints L))
     where
@@ -108,7 +115,7 @@ none-both a a′ L L′ e e′ same =
 accepted : (v : ℕ) → IsVersion v → (marks : List Bool) → length marks ≡ positionsOf v → correlateAnswer v marks ≡ markedPose v marks
 accepted v is marks e = rw (le-leb 1 v (is .least), le-leb v 64 (is .greatest), eq-eqb (length marks) (positionsOf v) e)
 
-counts-are : (v : ℕ) → IsVersion v → (marks : List Bool) → length marks ≡ positionsOf v → (c : Agreed v marks)
+counts-are : (v : ℕ) → IsVersion v → (marks : List Bool) → length marks ≡ positionsOf v → (c : CorrelateCall v marks)
     → c .answer .counts ≡ countsOf v marks
 counts-are v is marks e c =
     c .counts-is ∙ ap (λ (b : Best). countsBeside b v marks) (c .best-is ∙ accepted v is marks e)

@@ -40,7 +40,7 @@ use Rattle.turned.specs.Claims.{
   SameHull,
   SameQuad,
 }
-use Rattle.turned.specs.Calls.{Pictured, regionOf, pointsFor, Outlined, listed, Hulled, verticesOf, Cornered}
+use Rattle.turned.specs.Calls.{Pictured, regionOf, pointsFor, Outlined, listed, HullCall, verticesOf, QuadCall}
 use Rattle.turned.specs.Doors.{OutlinesAlike, RegionsAlike, DoorsAlike, PictureDoorsMoved, DoorsMoved}
 use Rattle.turned.proofs.Floats.{quad-floats}
 use Rattle.turned.proofs.Answers.{count-is, vertices-is, as-many, none-both, marks-moved}
@@ -225,7 +225,7 @@ module _ (m : Move) (W H : ℕ) (s : List ℕ) (c : Pictured s (16 * W) (16 * H)
       abbrev n′ : List Float
       n′ = listed (o′ .answer) (o′ .list)
 
-      module _ (k : Hulled n) (k′ : Hulled n′) (q : Cornered (verticesOf n k)) (q′ : Cornered (verticesOf n′ k′)) where
+      module _ (k : HullCall n) (k′ : HullCall n′) (q : QuadCall (verticesOf n k)) (q′ : QuadCall (verticesOf n′ k′)) where
         abbrev K : List (ℕ × ℕ)
         K = hullPoints L
 

@@ -9,8 +9,9 @@ use lib.ListN.{length, getD, take}
 use Rattle.regions.specs.Door.{noRegion, pictureAnswer, levelsAfter, labelsAfter}
 use Rattle.regions.specs.declared.answer.PictureAnswer.{PictureAnswer}
 use Rattle.regions.specs.declared.answer.Region.{Region}
-use Rattle.hull.specs.Points.{many, laid}
-use Rattle.hull.specs.Hull.{hullOf, hullFloats}
+use Rattle.hull.specs.Door.{hulled, verticesAfter}
+use Rattle.hull.specs.declared.Hulled.{Hulled}
+use Rattle.hull.specs.declared.Hulled.the-variants as hull
 use Rattle.hull.specs.Quad.{quadFloats, valuesOf}
 use Rattle.hull.specs.declared.points.Corners.{Corners}
 use Rattle.outline.specs.Door.{checkOutline, doorPoints, answered, listAfter}
@@ -62,28 +63,32 @@ listed (Refused n) l = []
 
 -- ---- hull and quad
 
--- An accepted call of `convex_hull` on the numbers l: the list as lent, how many vertices it answers, and the list as left.
-pub record Hulled (l : List Float) : Type 0 where
+-- An accepted call of `convex_hull` on the numbers l: the list as lent, the answer, and the list as left.
+pub record HullCall (l : List Float) : Type 0 where
   pub lent : List Float
-  pub count : ℕ
+  pub answer : Hulled
   pub list : List Float
-  pub count-is : count ≡ length (hullOf l (many l))
-  pub list-is : list ≡ laid (hullFloats l) lent
+  pub answer-is : answer ≡ hulled l (length lent)
+  pub list-is : list ≡ verticesAfter answer l lent
   pub accepted : length l ≤ length lent
 
--- The numbers of the vertices that it listed.
-abbrev pub verticesOf : (l : List Float) → Hulled l → List Float
-verticesOf l k = take (2 * k .count) (k .list)
+-- How many vertices it answered, and the numbers of those that it listed.
+abbrev pub countOf : Hulled → ℕ
+countOf (hull.Vertices n) = n
+countOf (hull.Refused n) = 0
+
+abbrev pub verticesOf : (l : List Float) → HullCall l → List Float
+verticesOf l k = take (2 * countOf (k .answer)) (k .list)
 
 -- A call of `quad` on the numbers l.
-pub record Cornered (l : List Float) : Type 0 where
+pub record QuadCall (l : List Float) : Type 0 where
   pub answer : Corners
   pub answer-is : valuesOf answer ≡ quadFloats l
 
 -- ---- marks
 
 -- A call of `correlate` on marks of a version.
-pub record Agreed (v : ℕ) (marks : List Bool) : Type 0 where
+pub record CorrelateCall (v : ℕ) (marks : List Bool) : Type 0 where
   pub answer : Correlated
   pub best-is : answer .best ≡ correlateAnswer v marks
   pub counts-is : answer .counts ≡ countsBeside (answer .best) v marks

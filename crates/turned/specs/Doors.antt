@@ -22,15 +22,15 @@ use Rattle.outline.specs.Door.{boxAt}
 use Rattle.lcr_core.specs.Version.{IsVersion, positionsOf}
 use Rattle.marks.specs.Pose.{MarkMove, MarksMoved, cornerTo, reversedTo}
 use Rattle.turned.specs.Claims.{Taken, NoTies}
-use Rattle.turned.specs.Calls.{Pictured, regionOf, Outlined, listed, Hulled, verticesOf, Cornered, Agreed}
+use Rattle.turned.specs.Calls.{Pictured, regionOf, Outlined, listed, HullCall, countOf, verticesOf, QuadCall, CorrelateCall}
 
 -- ---- pictures
 
 -- Numbers l and l′ that the outline door listed for a region of a picture of w by h and for that of the moved picture; a call of
 -- `convex_hull` on each, and a call of `quad` on the vertices that it listed. What the numbers stand for, in doubled coordinates, is as
 -- demand 3 has it.
-pub record OutlinesAlike (m : Move) (w h : ℕ) (l l′ : List Float) (k : Hulled l) (k′ : Hulled l′) (q : Cornered (verticesOf l k))
-    (q′ : Cornered (verticesOf l′ k′)) : Type 0 where
+pub record OutlinesAlike (m : Move) (w h : ℕ) (l l′ : List Float) (k : HullCall l) (k′ : HullCall l′) (q : QuadCall (verticesOf l k))
+    (q′ : QuadCall (verticesOf l′ k′)) : Type 0 where
   pub points : List (ℕ × ℕ)
   pub points′ : List (ℕ × ℕ)
   pub vertices : List (ℕ × ℕ)
@@ -41,7 +41,7 @@ pub record OutlinesAlike (m : Move) (w h : ℕ) (l l′ : List Float) (k : Hulle
   pub hulled : (verticesOf l k ≡ floatsOf vertices) × (verticesOf l′ k′ ≡ floatsOf vertices′)
   pub cornered : (valuesOf (q .answer) ≡ floatsOf corners) × (valuesOf (q′ .answer) ≡ floatsOf corners′)
   pub boundary : (p : Pt) → often (pointOf m w h p) (ptsOf points′) ≡ often p (ptsOf points)
-  pub count : k′ .count ≡ k .count
+  pub count : countOf (k′ .answer) ≡ countOf (k .answer)
   pub hull : Rot (movedRound m w h (ptsOf vertices)) (ptsOf vertices′) × NoDup (ptsOf vertices′) × Clockwise (ptsOf vertices′)
       × Starts (ptsOf vertices′) (ptsOf points′)
   pub quad : (a b : Pt) → Far (ptsOf vertices) a b → OneTop (ptsOf vertices) a b → OneTop (ptsOf vertices) b a
@@ -91,8 +91,8 @@ module _ (m : Move) (W H : ℕ) (s : List ℕ) (c : Pictured s (16 * W) (16 * H)
     pub regions : (i : ℕ) → i < c .answer .regions .kept → RegionsAlike (regionOf s w h c i) (regionOf s′ w′ h′ c′ i)
     pub outlines : (i : ℕ) → i < c .answer .regions .kept
         → (o : Outlined s w h c (regionOf s w h c i)) (o′ : Outlined s′ w′ h′ c′ (regionOf s′ w′ h′ c′ i))
-        → (k : Hulled (listed (o .answer) (o .list))) (k′ : Hulled (listed (o′ .answer) (o′ .list)))
-        → (q : Cornered (verticesOf (listed (o .answer) (o .list)) k)) (q′ : Cornered (verticesOf (listed (o′ .answer) (o′ .list)) k′))
+        → (k : HullCall (listed (o .answer) (o .list))) (k′ : HullCall (listed (o′ .answer) (o′ .list)))
+        → (q : QuadCall (verticesOf (listed (o .answer) (o .list)) k)) (q′ : QuadCall (verticesOf (listed (o′ .answer) (o′ .list)) k′))
         → OutlinesAlike m w h (listed (o .answer) (o .list)) (listed (o′ .answer) (o′ .list)) k k′ q q′
 
 -- Every picture taken, every move, every accepted call on either picture.
@@ -111,7 +111,7 @@ countAt counts r reversed = getD counts (cond reversed (4 + r) r) 0
 -- Every version, every list of as many marks, every move of marks: the counts answered are the same at the poses so moved.
 unfoldable pub MarkDoorMoved : Type 0
 MarkDoorMoved = (v : ℕ) → IsVersion v → (g : MarkMove) (old new : List Bool) → length old ≡ positionsOf v → MarksMoved v g old new
-    → (c : Agreed v old) (c′ : Agreed v new) (r : ℕ) (reversed : Bool) → r < 4
+    → (c : CorrelateCall v old) (c′ : CorrelateCall v new) (r : ℕ) (reversed : Bool) → r < 4
     → countAt (c′ .answer .counts) (cornerTo g r) (reversedTo g reversed) ≡ countAt (c .answer .counts) r reversed
 
 pub record DoorsMoved : Type 0 where

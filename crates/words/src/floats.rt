@@ -25,7 +25,7 @@ pub fn bits32(x: f32) -> u32
 }
 
 // The f64 whose bits are given.
-pub fn f64_of(bits: u64) -> f64 {
+fn f64_of(bits: u64) -> f64 {
     if 0x7ff0_0000_0000_0000 < bits % 0x8000_0000_0000_0000 {
         return 0.0 / 0.0;
     }
@@ -84,7 +84,7 @@ pub fn put32(out: &mut [u32], k: usize, x: f32) {
 }
 
 // Writes an f64 as the k-th pair of some words, where there is one.
-pub fn put64(out: &mut [u32], k: usize, x: f64) {
+fn put64(out: &mut [u32], k: usize, x: f64) {
     if k < out.len() / 2 {
         let b = bits64(x);
         out[2 * k] = (b % 4294967296) as u32;
