@@ -184,7 +184,7 @@ fn traced(t: Trace, out: &mut [u8]) -> usize
 }
 
 // The line of a refusal.
-pub fn refused(n: u32, out: &mut [u8]) -> usize
+pub(crate) fn refused(n: u32, out: &mut [u8]) -> usize
     requires { ⌜ 3360 ≤ length (now out) ⌝ }
     ensures { λ r. ⌜
         Stored 0 (lineOf refusedWord (n ∷ [])) (now (out .entry)) (now (out .exit)) r ⌝ }
@@ -194,7 +194,7 @@ pub fn refused(n: u32, out: &mut [u8]) -> usize
 }
 
 // The text of the door's answer.
-pub fn answered(r: Answer, out: &mut [u8]) -> usize
+pub(crate) fn answered(r: Answer, out: &mut [u8]) -> usize
     requires { ⌜ (r .trace .scores .many ≤ 64) × (3360 ≤ length (now out)) ⌝ }
     ensures { λ e. ⌜ Stored 0 (answerText r) (now (out .entry)) (now (out .exit)) e ⌝ }
     ensures { λ e. ⌜ e ≤ 3360 ⌝ }

@@ -13,7 +13,7 @@ ghost use Rattle.laws.specs.Lent.{Stored};
 ghost use Rattle.attempt_text.specs.Traced.{number, single, double, each};
 
 // A number of at most 20 digits.
-pub fn put_count(out: &mut [u8], at: usize, n: usize) -> usize
+pub(crate) fn put_count(out: &mut [u8], at: usize, n: usize) -> usize
     requires { ⌜ at + 21 ≤ length (now out) ⌝ }
     ensures { λ r. ⌜ Stored at (number n) (now (out .entry)) (now (out .exit)) r ⌝ }
     ensures { λ r. ⌜ r ≤ at + 21 ⌝ }
@@ -22,7 +22,7 @@ pub fn put_count(out: &mut [u8], at: usize, n: usize) -> usize
 }
 
 // A number of at most three digits.
-pub fn put_small(out: &mut [u8], at: usize, n: u8) -> usize
+pub(crate) fn put_small(out: &mut [u8], at: usize, n: u8) -> usize
     requires { ⌜ at + 4 ≤ length (now out) ⌝ }
     ensures { λ r. ⌜ Stored at (number n) (now (out .entry)) (now (out .exit)) r ⌝ }
     ensures { λ r. ⌜ r ≤ at + 4 ⌝ }
@@ -31,14 +31,14 @@ pub fn put_small(out: &mut [u8], at: usize, n: u8) -> usize
 }
 
 // 1 for true, 0 for false.
-pub fn flag(b: bool) -> u8
+pub(crate) fn flag(b: bool) -> u8
     ensures { λ r. ⌜ r ≡ bit b ⌝ }
 {
     if b { 1 } else { 0 }
 }
 
 // An f32.
-pub fn put_single(out: &mut [u8], at: usize, x: f32) -> usize
+pub(crate) fn put_single(out: &mut [u8], at: usize, x: f32) -> usize
     requires { ⌜ at + 9 ≤ length (now out) ⌝ }
     ensures { λ r. ⌜ Stored at (single x) (now (out .entry)) (now (out .exit)) r ⌝ }
     ensures { λ r. ⌜ r ≤ at + 9 ⌝ }
@@ -51,7 +51,7 @@ pub fn put_single(out: &mut [u8], at: usize, x: f32) -> usize
 }
 
 // An f64.
-pub fn put_double(out: &mut [u8], at: usize, x: f64) -> usize
+pub(crate) fn put_double(out: &mut [u8], at: usize, x: f64) -> usize
     requires { ⌜ at + 17 ≤ length (now out) ⌝ }
     ensures { λ r. ⌜ Stored at (double x) (now (out .entry)) (now (out .exit)) r ⌝ }
     ensures { λ r. ⌜ r ≤ at + 17 ⌝ }
@@ -64,7 +64,7 @@ pub fn put_double(out: &mut [u8], at: usize, x: f64) -> usize
 }
 
 // The f32 numbers of a list.
-pub fn put_singles(out: &mut [u8], at: usize, xs: &[f32]) -> usize
+pub(crate) fn put_singles(out: &mut [u8], at: usize, xs: &[f32]) -> usize
     requires { ⌜ at + 9 * length (now xs) ≤ length (now out) ⌝ }
     ensures { λ r. ⌜
         Stored at (each single (now (xs .entry))) (now (out .entry)) (now (out .exit)) r ⌝ }
@@ -80,7 +80,7 @@ pub fn put_singles(out: &mut [u8], at: usize, xs: &[f32]) -> usize
 }
 
 // The f64 numbers of a list.
-pub fn put_doubles(out: &mut [u8], at: usize, xs: &[f64]) -> usize
+pub(crate) fn put_doubles(out: &mut [u8], at: usize, xs: &[f64]) -> usize
     requires { ⌜ at + 17 * length (now xs) ≤ length (now out) ⌝ }
     ensures { λ r. ⌜
         Stored at (each double (now (xs .entry))) (now (out .entry)) (now (out .exit)) r ⌝ }

@@ -7,14 +7,14 @@ ghost use lib.ListN.{length};
 ghost use Rattle.attempt_text.specs.Attempt.{pixelCount, numberCount, checkAttempt, floatsAt};
 
 // How many bytes of the picture a record says.
-pub fn pixel_count(s: &[u8]) -> usize
+pub(crate) fn pixel_count(s: &[u8]) -> usize
     ensures { λ r. ⌜ (r ≡ pixelCount (now (s .entry))) × (r < 4294967296) ⌝ }
 {
     words::many(word_at(s, 12))
 }
 
 // How many numbers of the list are read.
-pub fn number_count(s: &[u8]) -> usize
+pub(crate) fn number_count(s: &[u8]) -> usize
     ensures { λ r. ⌜ (r ≡ numberCount (now (s .entry))) × (r ≤ 32770) ⌝ }
 {
     let n = words::many(word_at(s, 16));
@@ -25,7 +25,7 @@ pub fn number_count(s: &[u8]) -> usize
 }
 
 // 13 where a part of the record is missing or too long, else 0.
-pub fn check(s: &[u8]) -> u32
+pub(crate) fn check(s: &[u8]) -> u32
     ensures { λ r. ⌜ r ≡ checkAttempt (now (s .entry)) ⌝ }
 {
     if s.len() < 20 {
@@ -46,7 +46,7 @@ pub fn check(s: &[u8]) -> u32
 }
 
 // The numbers whose words begin at a place, as many as the list has.
-pub fn read(s: &[u8], from: usize, list: &mut [f32])
+pub(crate) fn read(s: &[u8], from: usize, list: &mut [f32])
     requires { ⌜ (from ≤ 1048596) × (length (now list) ≤ 32770) ⌝ }
     ensures { λ _. ⌜
         now (list .exit) ≡ floatsAt (now (s .entry)) from (length (now (list .entry))) ⌝ }

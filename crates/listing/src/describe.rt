@@ -121,7 +121,7 @@ fn all_regions(
 }
 
 // The listing of a picture.
-pub fn picture_text(s: &[u8], w: usize, h: usize, out: &mut [u8]) -> usize
+pub(crate) fn picture_text(s: &[u8], w: usize, h: usize, out: &mut [u8]) -> usize
     requires { ⌜ TrayPicture (now s) w h ⌝ }
     requires { ⌜ 352 ≤ length (now out) ⌝ }
     ensures { λ r. ⌜

@@ -29,7 +29,7 @@ fn put_numbers(out: &mut [u8], at: usize, ns: &[u32]) -> usize
 }
 
 // A word, numbers below 1,000 with a space before each, and a line feed.
-pub fn line(out: &mut [u8], at: usize, word: &[u8], ns: &[u32]) -> usize
+pub(crate) fn line(out: &mut [u8], at: usize, word: &[u8], ns: &[u32]) -> usize
     requires { ⌜ Short (now ns) ⌝ }
     requires { ⌜ at + (length (now word) + (4 * length (now ns) + 1)) ≤ length (now out) ⌝ }
     ensures { λ r. ⌜
@@ -73,7 +73,7 @@ fn corners(q: Quad, out: &mut [u8], at: usize) -> usize
 }
 
 // The line of the quad of the vertices p.
-pub fn quad_line(p: &[f32], out: &mut [u8], at: usize) -> usize
+pub(crate) fn quad_line(p: &[f32], out: &mut [u8], at: usize) -> usize
     requires { ⌜ Near (now p) ⌝ }
     requires { ⌜ at + 37 ≤ length (now out) ⌝ }
     ensures { λ r. ⌜

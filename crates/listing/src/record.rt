@@ -14,7 +14,7 @@ fn byte(b: u8) -> usize
 }
 
 // The number of two bytes, the lower first.
-pub fn pair_at(s: &[u8], i: usize) -> usize
+pub(crate) fn pair_at(s: &[u8], i: usize) -> usize
     requires { ⌜ i + 2 ≤ length (now s) ⌝ }
     ensures { λ r. ⌜ (r ≡ pairAt (now (s .entry)) i) × (r < 65536) ⌝ }
 {
