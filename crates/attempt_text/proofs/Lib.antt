@@ -3,3 +3,4 @@ pub mod Texts
 pub mod Records
 pub mod Few
 pub mod Wholes
+pub mod Controls

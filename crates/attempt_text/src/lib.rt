@@ -17,7 +17,7 @@ ghost use Rattle.ring.specs.Door.{answerOf};
 ghost use Rattle.attempt_text.specs.Attempt.{checkAttempt};
 ghost use Rattle.attempt_text.specs.Traced.{answerText, textOf, filled};
 
-pub mod lines;
+mod lines;
 mod pieces;
 mod record;
 

@@ -1,6 +1,6 @@
+-- `text::put_hex` meets its contract: by recursion on the digits but the last. Measure: how many digits. Assumes nothing.
 use Rattle.text.proofs.Decimals.{hex-length}
 use Rattle.text.proofs.Words.{hex-end, hex-stored}
--- `text::put_hex` meets its contract: by recursion on the digits but the last. Measure: how many digits. Assumes nothing.
 use borrow.Author.Needs.{needs}
 use native.Mathlib.Omega.{arith}
 use Prim.Native.Nat.{ℕ, _-_, _/_, _<_}

@@ -1,6 +1,6 @@
+-- `text::put_number` meets its contract: by recursion on the number without its last digit. Measure: the number. Assumes nothing.
 use Rattle.text.proofs.Decimals.{length-one, length-more}
 use Rattle.text.proofs.Words.{one-stored, more-stored}
--- `text::put_number` meets its contract: by recursion on the number without its last digit. Measure: the number. Assumes nothing.
 use borrow.Author.Needs.{needs}
 use native.Mathlib.Omega.{arith}
 use Prim.Native.Nat.{ℕ, _<_}

@@ -8,7 +8,7 @@ use lib.Seq.{take-all}
 use Prim.Native.Nat.{ℕ, _-_, _≤_}
 use denote.Ref.{now}
 use native.Mathlib.Omega.{arith}
-use mathlib.Core.Path.{_≡_, ap, subst}
+use mathlib.Core.Path.{subst}
 use Rattle.laws.specs.Lent.{Stored}
 use Rattle.text.specs.Text.{spaced}
 use borrow.Author.Needs.{needs}

@@ -3,10 +3,9 @@ use Prim.Native.Nat.{ℕ, _+_, _*_, _≤_}
 use native.Mathlib.Omega.{arith}
 use denote.Ref.{now}
 use lib.ListN.{length}
-use mathlib.Core.Path.{_≡_, sym, ap, ap₂, _∙_}
-use mathlib.Core.Bool.{true}
+use mathlib.Core.Path.{_≡_, sym, ap₂, _∙_}
 use Rattle.laws.proofs.Bools.{not-true, not-false}
-use Rattle.listing.specs.Listing.{pairAt, widthOf, heightOf, isTraySide}
+use Rattle.listing.specs.Listing.{pairAt}
 use Rattle.listing.proofs.Records.{side-of, area-small, none-short, none-kind, none-wide, none-high, none-long, asked-all}
 use borrow.Author.Needs.{needs}
 use Rattle.listing.proofs.record.pixels.Statement.{statement}
