@@ -89,7 +89,7 @@ def open_up(lines, fields=()):
 # What `noted` notes, by function: after or before the one line of the function that starts so; where there are as
 # many lines as notes, one each.
 NOTES = {
-    "pub fn attempt(": [
+    "attempt": [
         ("after", "let raw_quad", ["Raw(raw_hull.len(), raw_quad)"]),
         ("after", "let lens ", ["Lens(lens)"]),
         ("before", "let hull_len", ["Hull(hull_quad)"]),
@@ -98,12 +98,12 @@ NOTES = {
         ("after", "let t ", ["Tried(t.fix.is_some())"]),
         ("after", "let top", ["Top(top(&t))"]),
     ],
-    "pub fn correlate_quad(": [("after", "let span", ["Span(span)"])],
-    "pub fn refine_quad(": [
+    "correlate_quad": [("after", "let span", ["Span(span)"])],
+    "refine_quad": [
         ("after", "let len", ["Side((dx, dy), len)"]),
         ("after", "let tols", ["Bands(tols)"]),
     ],
-    "pub fn estimate_lens(": [
+    "estimate_lens": [
         ("after", "for _ in", ["Pass"]),
         ("after", "let len", ["Edge(e, len)"]),
         ("before", "if (sel.len()", ["Points(sel.len())"]),
@@ -120,7 +120,7 @@ def note(lines):
     """The lines with those of NOTES put in, and the lines that were put in."""
     put = {}
     for head, notes in NOTES.items():
-        first = [i for i, l in enumerate(lines) if l.startswith(head)]
+        first = [i for i, l in enumerate(lines) if l.startswith(f"pub fn {head}(")]
         if len(first) != 1:
             sys.exit(f"function {head!r}: {len(first)} places")
         last = lines.index("}", first[0])
