@@ -20,8 +20,8 @@
  * that is read must hold 0 or 1.
  *
  * A list that belongs to a door and is too short is refused by LCR_LENT in the door's own order of checks.
- * One that only the C function has (out of lcr_convex_hull, xy of lcr_apply_all) is checked before all else, by
- * LCR_LENT too.
+ * One that only the C function has (xy of lcr_apply_all) is checked before all else,
+ * by LCR_LENT too.
  *
  * COORDINATES. Pixels from the picture's upper left corner, x to the right and y down: pixel (c, r) covers the
  * square from (c, r) to (c + 1, r + 1) and has its centre at + 0.5. Points in a list are x and y by turns. A
@@ -162,7 +162,7 @@ uint32_t lcr_quad(const float *vertices, size_t vertices_len, float quad[8]);
  *
  * Refusals in order: LCR_SIDE, LCR_BYTES, LCR_POINTS, LCR_LENT, LCR_COORDINATE, LCR_VERSION. */
 uint32_t lcr_attempt(const uint8_t *gray, size_t gray_len, size_t width, size_t height,
-                     const float *points, size_t points_len, uint8_t most,
+                     const float *points, size_t points_len, uint32_t most,
                      float *straight, size_t straight_len, float *cand, size_t cand_len, float *buf, size_t buf_len,
                      size_t *hull, bool *found, float quad[8], size_t *tried, float scores[LCR_SCORES],
                      double fix[15], double fallback[15]);
@@ -171,7 +171,7 @@ uint32_t lcr_attempt(const uint8_t *gray, size_t gray_len, size_t width, size_t 
 
 /* A version, 1 to 64.   side: out, cells on a side of the symbol, 17 + 4 x version.
  *   positions: out, positions round its ring, 16 x version + 88.   Refusal: LCR_VERSION. */
-uint32_t lcr_version(uint8_t version, uint16_t *side, size_t *positions);
+uint32_t lcr_version(uint32_t version, uint16_t *side, size_t *positions);
 
 /* Cells have coordinates in cells from the symbol's upper left one; those of the ring run from -3 to side + 2.
  * In the next three x and y are within -32,768 .. 32,767. Refusals in order: LCR_VERSION, LCR_CELL.
@@ -181,18 +181,18 @@ uint32_t lcr_version(uint8_t version, uint16_t *side, size_t *positions);
  *                       and bottom have the corners; offset: out, the coordinate along it, in cells. A cell within the
  *                       symbol gets some edge too: lcr_shell tells it by depth 0
  * lcr_position          position: out, 0 to positions - 1; LCR_NONE where the cell is not of the ring */
-uint32_t lcr_shell(uint8_t version, int32_t x, int32_t y, size_t *depth);
-uint32_t lcr_edge_and_offset(uint8_t version, int32_t x, int32_t y, size_t *edge, int32_t *offset);
-uint32_t lcr_position(uint8_t version, int32_t x, int32_t y, size_t *position);
+uint32_t lcr_shell(uint32_t version, int32_t x, int32_t y, size_t *depth);
+uint32_t lcr_edge_and_offset(uint32_t version, int32_t x, int32_t y, size_t *edge, int32_t *offset);
+uint32_t lcr_position(uint32_t version, int32_t x, int32_t y, size_t *position);
 
 /* The outer cell of a position, and the cell one step inward from it. p: any number, reduced modulo the positions.
  *   x, y: out, the cell: the outer one -3 to side + 2, the inner one -2 to side + 1.   Refusal: LCR_VERSION. */
-uint32_t lcr_outer_cell(uint8_t version, size_t p, int32_t *x, int32_t *y);
-uint32_t lcr_inner_cell(uint8_t version, size_t p, int32_t *x, int32_t *y);
+uint32_t lcr_outer_cell(uint32_t version, size_t p, int32_t *x, int32_t *y);
+uint32_t lcr_inner_cell(uint32_t version, size_t p, int32_t *x, int32_t *y);
 
 /* The ring's mark at a position. p: any number, reduced modulo the positions.   light: out, whether it is light.
  * Refusal: LCR_VERSION. */
-uint32_t lcr_sequence_light(uint8_t version, size_t p, bool *light);
+uint32_t lcr_sequence_light(uint32_t version, size_t p, bool *light);
 
 /* Light or dark at each position of a ring, from its luma.
  *
@@ -201,7 +201,7 @@ uint32_t lcr_sequence_light(uint8_t version, size_t p, bool *light);
  *   marks      out, exactly one a position: whether it is light
  *
  * Refusals in order: LCR_VERSION, LCR_MARKS (lumas, then marks; longer lists too). */
-uint32_t lcr_classify(uint8_t version, const float *lumas, size_t lumas_len, bool *marks, size_t marks_len);
+uint32_t lcr_classify(uint32_t version, const float *lumas, size_t lumas_len, bool *marks, size_t marks_len);
 
 /* The pose in which a ring's marks agree most with the version's sequence.
  *
@@ -214,7 +214,7 @@ uint32_t lcr_classify(uint8_t version, const float *lumas, size_t lumas_len, boo
  *              the answer is the first with the greatest count
  *
  * Refusals in order: LCR_VERSION, LCR_MARKS. */
-uint32_t lcr_correlate(uint8_t version, const bool *marks, size_t marks_len, float *score, size_t *corner,
+uint32_t lcr_correlate(uint32_t version, const bool *marks, size_t marks_len, float *score, size_t *corner,
                        bool *reversed, uint16_t counts[8]);
 
 /* ---- Transforms ----------------------------------------------------------------------------------------- */

@@ -7,10 +7,13 @@ SRC     folder of the Rust sources, with crates/ in it
 OUT     folder to write the cargo workspace to (three crates: lcr-core, lcr-decode, oracle)
 DRIVER  folder with the driver's own *.rs files (default: `driver` beside this script)
 
-Two kinds of change are made, and no other; both are checked and listed in OUT/CHANGES.txt:
+Three kinds of change are made, and no other; all are checked and listed in OUT/CHANGES.txt:
   * whole items that need modules which are not there are cut (colours, palette, illumination,
-    demodulation, format reading, errors), with the `use` lines that name those modules;
-  * `pub ` is put before private items, methods and fields.
+    demodulation, format reading, errors), with the `use` lines that name those modules; two `use`
+    lines are shortened;
+  * `pub ` is put before private items, methods and fields;
+  * lines that note what is found (NOTES below, with notes.rs) are put into a second build of
+    ring.rs, the module `noted`. The module `ring` has none of them.
 """
 import os, re, sys
 
@@ -83,11 +86,64 @@ def open_up(lines, fields=()):
         out.append(l)
     return out
 
+# What `noted` notes, by function: after or before the one line of the function that starts so; where there are as
+# many lines as notes, one each.
+NOTES = {
+    "attempt": [
+        ("after", "let raw_quad", ["Raw(raw_hull.len(), raw_quad)"]),
+        ("after", "let lens ", ["Lens(lens)"]),
+        ("before", "let hull_len", ["Hull(hull_quad)"]),
+        ("after", "let refined", ["Refined(refined, refined == hull_quad)"]),
+        ("after", "let edges", ["Edges(edge_quad(points, hull_quad), edges.is_none())"]),
+        ("after", "let t ", ["Tried(t.fix.is_some())"]),
+        ("after", "let top", ["Top(top(&t))"]),
+    ],
+    "correlate_quad": [("after", "let span", ["Span(span)"])],
+    "refine_quad": [
+        ("after", "let len", ["Side((dx, dy), len)"]),
+        ("after", "let tols", ["Bands(tols)"]),
+    ],
+    "estimate_lens": [
+        ("after", "for _ in", ["Pass"]),
+        ("after", "let len", ["Edge(e, len)"]),
+        ("before", "if (sel.len()", ["Points(sel.len())"]),
+        ("after", "*slot", ["Fit { h0, fit, se, kappa: slot.0, error: slot.1 }"]),
+        ("before", "if den", ["Weights(num, den)"]),
+        ("after", "let step", ["Step(step)"]),
+        ("before", "if (kappa", ["Total(kappa, reach)"]),
+        ("before", "return none", [f'End("{why}")' for why in (
+            "no quad", "a short edge", "few points", "no fit", "no fit", "no weight", "edges disagree", "below the least")]),
+    ],
+}
+
+def note(lines):
+    """The lines with those of NOTES put in, and the lines that were put in."""
+    put = {}
+    for head, notes in NOTES.items():
+        first = [i for i, l in enumerate(lines) if l.startswith(f"pub fn {head}(")]
+        if len(first) != 1:
+            sys.exit(f"function {head!r}: {len(first)} places")
+        last = lines.index("}", first[0])
+        for side, start, texts in notes:
+            at = [i for i in range(first[0], last) if lines[i].strip().startswith(start)]
+            if len(at) != len(texts):
+                sys.exit(f"{head} {start!r}: {len(at)} places for {len(texts)} notes")
+            for i, text in zip(at, texts):
+                indent = re.match(r" *", lines[i]).group() + ("    " if lines[i].endswith("{") and side == "after" else "")
+                put.setdefault(i + (side == "after"), []).append(f"{indent}Note::{text}.put();")
+    made = []
+    for i, l in enumerate(lines):
+        made += put.get(i, []) + [l]
+    return made, [l for ls in put.values() for l in ls]
+
 def strip_pub(l):
     return l.replace("pub(crate) ", "").replace("pub ", "").strip()
 
 def check(orig, made, allowed, log, name):
-    """Every made line is, but for `pub`, a line of the original, in its order."""
+    """Every made line is, but for `pub`, a line of the original, in its order; or one of those allowed, none of which
+    is a line of the original."""
+    if set(allowed) & set(orig):
+        sys.exit(f"{name}: a line to put in is one of the source: {set(allowed) & set(orig)}")
     i, n_cut, n_pub = 0, 0, 0
     for l in made:
         if l in allowed:
@@ -119,7 +175,7 @@ def main():
 
     def put(crate, name, orig, made, allowed=()):
         c, p = check(orig, made, allowed, log, f"{crate}/{name}")
-        summary.append(f"{crate}/{name}: {len(orig)} lines, {c} cut, {p} opened, {len(allowed)} replaced")
+        summary.append(f"{crate}/{name}: {len(orig)} lines, {c} cut, {p} opened, {len(allowed)} shortened or put in")
         path = os.path.join(out, crate, "src", name)
         write(path, "\n".join(made))
 
@@ -161,8 +217,15 @@ def main():
     m = replace_line(m, "use lcr_core::{FormatInfo, LcrError, Profile, Version, bch};", v_new)
     for head in ("const LLR_CLAMP", "pub fn read_ring_format(", "fn symbol_bit_llr("):
         m = cut_item(m, head)
-    put("lcr-decode", "ring.rs", o, open_up(m, fields=("InkMap", "Region")), (b_new, v_new))
-    lib = "//! Oracle build of lcr-decode: see CHANGES.txt.\nextern crate alloc;\npub mod math;\npub mod ring;\npub mod transform;\n"
+    opened = open_up(m, fields=("InkMap", "Region"))
+    put("lcr-decode", "ring.rs", o, opened, (b_new, v_new))
+    noted, notes = note(opened)
+    uses = "use crate::notes::Note;"
+    noted.insert(noted.index(v_new), uses)
+    put("lcr-decode", "noted.rs", o, noted, (b_new, v_new, uses, *notes))
+    write(os.path.join(out, "lcr-decode/src/notes.rs"), open(os.path.join(HERE, "notes.rs"), encoding="utf-8").read())
+    lib = ("//! Oracle build of lcr-decode: see CHANGES.txt.\nextern crate alloc;\npub mod math;\npub mod noted;\n"
+           "pub mod notes;\npub mod ring;\npub mod transform;\n")
     write(os.path.join(out, "lcr-decode/src/lib.rs"), lib)
 
     # manifests and driver

@@ -74,7 +74,7 @@ unsafe extern "C" {
         stack: *mut u32, k: usize, regions: *mut u32) -> u32;
     fn lcr_outline(gray: *const u8, n: usize, levels: *const u8, l: usize, labels: *const u32, m: usize, want: u32, width: usize,
         height: usize, x0: usize, y0: usize, x1: usize, y1: usize, out: *mut f32, o: usize, points: *mut usize) -> u32;
-    fn lcr_attempt(gray: *const u8, n: usize, width: usize, height: usize, points: *const f32, m: usize, most: u8,
+    fn lcr_attempt(gray: *const u8, n: usize, width: usize, height: usize, points: *const f32, m: usize, most: u32,
         straight: *mut f32, a: usize, cand: *mut f32, b: usize, buf: *mut f32, c: usize, hull: *mut usize, found: *mut bool,
         quad: *mut f32, tried: *mut usize, scores: *mut f32, fix: *mut f64, fallback: *mut f64) -> u32;
 }
@@ -126,7 +126,7 @@ fn ring(f: &[f64; 15]) -> Option<Ring> {
 }
 
 /// The ring door: one attempt at a ring from boundary points, up to version `most`.
-pub fn attempt(gray: &[u8], width: usize, height: usize, points: &[(f32, f32)], most: u8) -> Result<Trace, Refusal> {
+pub fn attempt(gray: &[u8], width: usize, height: usize, points: &[(f32, f32)], most: u32) -> Result<Trace, Refusal> {
     let list: Vec<f32> = points.iter().flat_map(|p| [p.0, p.1]).collect();
     let n = list.len();
     let (mut a, mut b, mut c) = (vec![0f32; n], vec![0f32; n], vec![0f32; n]);

@@ -38,7 +38,7 @@ fn parse(bytes: &[u8]) -> Result<Picture, &'static str> {
     }
 }
 
-fn run(file: &str, most: Option<u8>) -> Result<(), String> {
+fn run(file: &str, most: Option<u32>) -> Result<(), String> {
     let bytes = std::fs::read(file).map_err(|_| "can't be opened".to_string())?;
     let p = parse(&bytes)?;
     let map = lcr_ring::map(&p.gray, p.width, p.height).map_err(|r| r.to_string())?;
@@ -60,7 +60,7 @@ fn run(file: &str, most: Option<u8>) -> Result<(), String> {
 
 fn main() {
     let words: Vec<String> = std::env::args().skip(1).collect();
-    let most = words.get(1).map(|w| w.parse::<u8>());
+    let most = words.get(1).map(|w| w.parse::<u32>());
     let (1 | 2, Ok(most)) = (words.len(), most.transpose()) else {
         eprintln!("regions FILE [MOST]");
         std::process::exit(2);

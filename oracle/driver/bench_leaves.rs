@@ -110,11 +110,11 @@ fn rings_marks(r: &mut Rng) {
         let mut marks: Vec<Vec<bool>> = all.iter().map(|l| vec![false; l.len()]).collect();
         row(&format!("`classify`, {name}"), 64,
             |i| drop(black_box(ring::classify(black_box(&all[i])))),
-            |i| assert_eq!(classify(i as u8 + 1, &all[i], &mut marks[i]), 0));
+            |i| assert_eq!(classify(i as u32 + 1, &all[i], &mut marks[i]), 0));
         assert!(all.iter().zip(&marks).all(|(l, m)| ring::classify(l) == *m));
         row(&format!("`correlate`, {name}"), 64,
             |i| { black_box(ring::correlate(black_box(&marks[i]), side(i as u32 + 1))); },
-            |i| { black_box(correlate(i as u8 + 1, black_box(&marks[i]))).unwrap(); });
+            |i| { black_box(correlate(i as u32 + 1, black_box(&marks[i]))).unwrap(); });
     }
 }
 

@@ -63,7 +63,7 @@ fn accepted(kind: u32, v: u32, a: u32, b: u32) -> Vec<u32> {
 /// limits and refusals.
 fn stored() -> Vec<Call> {
     let mut o = Vec::new();
-    for v in (0..=66).chain([127, 128, 255]) {
+    for v in (0..=66).chain([127, 128, 255, 256, 257, 320, u32::MAX]) {
         o.push(call(100, v, 0, 0));
     }
     for v in 1..=64u32 {
@@ -84,7 +84,7 @@ fn stored() -> Vec<Call> {
             }
         }
     }
-    for v in [0, 1, 64, 65, 200] {
+    for v in [0, 1, 64, 65, 200, 257] {
         for (x, y) in [(-32768, 0), (-32769, 0), (32767, 5), (32768, 5), (0, -32768), (0, -32769), (7, 32767), (7, 32768), (i32::MIN, i32::MAX), (i32::MAX, i32::MIN)] {
             for kind in 101..=103 {
                 o.push(call(kind, v, x as u32, y as u32));
@@ -101,9 +101,14 @@ fn stored() -> Vec<Call> {
     o
 }
 
+/// A number that is mostly no version, now and then past a byte.
+fn odd(r: &mut Rng) -> u32 {
+    if r.chance(0.5) { r.below(258) as u32 } else { r.next() as u32 }
+}
+
 fn random(r: &mut Rng) -> Call {
     let kind = r.range(100, 108) as u32;
-    let v = if r.chance(0.05) { r.below(256) as u32 } else { r.range(1, 64) as u32 };
+    let v = if r.chance(0.05) { odd(r) } else { r.range(1, 64) as u32 };
     let side = 17 + 4 * v as i64;
     if kind < 104 {
         let mut c = || match r.below(8) {

@@ -12,7 +12,7 @@ unsafe extern "C" {
         x0: usize, y0: usize, x1: usize, y1: usize, out: *mut f32, m: usize, points: *mut usize) -> u32;
     fn lcr_convex_hull(p: *const f32, n: usize, out: *mut f32, m: usize, vertices: *mut usize) -> u32;
     fn lcr_quad(p: *const f32, n: usize, quad: *mut f32) -> u32;
-    fn lcr_attempt(gray: *const u8, n: usize, w: usize, h: usize, points: *const f32, m: usize, most: u8,
+    fn lcr_attempt(gray: *const u8, n: usize, w: usize, h: usize, points: *const f32, m: usize, most: u32,
         straight: *mut f32, a: usize, cand: *mut f32, b: usize, buf: *mut f32, c: usize, hull: *mut usize, found: *mut bool,
         quad: *mut f32, tried: *mut usize, scores: *mut f32, fix: *mut f64, fallback: *mut f64) -> u32;
 }
@@ -121,7 +121,7 @@ impl Ring {
     }
 
     /// 0, or the refusal.
-    pub fn call(&mut self, g: &[u8], w: usize, h: usize, points: &[f32], most: u8) -> u32 {
+    pub fn call(&mut self, g: &[u8], w: usize, h: usize, points: &[f32], most: u32) -> u32 {
         let ([a, b, c], [fix, fallback]) = (&mut self.lists, &mut self.rings);
         self.refused = unsafe {
             lcr_attempt(

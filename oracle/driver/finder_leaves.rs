@@ -6,13 +6,13 @@ use crate::marks::bits;
 unsafe extern "C" {
     pub fn lcr_root(x: f32) -> f32;
     pub fn lcr_narrowed(x: f64) -> f32;
-    fn lcr_version(version: u8, side: *mut u16, positions: *mut usize) -> u32;
-    fn lcr_shell(version: u8, x: i32, y: i32, depth: *mut usize) -> u32;
-    fn lcr_edge_and_offset(version: u8, x: i32, y: i32, edge: *mut usize, offset: *mut i32) -> u32;
-    fn lcr_position(version: u8, x: i32, y: i32, position: *mut usize) -> u32;
-    fn lcr_outer_cell(version: u8, p: usize, x: *mut i32, y: *mut i32) -> u32;
-    fn lcr_inner_cell(version: u8, p: usize, x: *mut i32, y: *mut i32) -> u32;
-    fn lcr_sequence_light(version: u8, p: usize, light: *mut bool) -> u32;
+    fn lcr_version(version: u32, side: *mut u16, positions: *mut usize) -> u32;
+    fn lcr_shell(version: u32, x: i32, y: i32, depth: *mut usize) -> u32;
+    fn lcr_edge_and_offset(version: u32, x: i32, y: i32, edge: *mut usize, offset: *mut i32) -> u32;
+    fn lcr_position(version: u32, x: i32, y: i32, position: *mut usize) -> u32;
+    fn lcr_outer_cell(version: u32, p: usize, x: *mut i32, y: *mut i32) -> u32;
+    fn lcr_inner_cell(version: u32, p: usize, x: *mut i32, y: *mut i32) -> u32;
+    fn lcr_sequence_light(version: u32, p: usize, light: *mut bool) -> u32;
     fn lcr_median(v: *mut f32, n: usize, median: *mut f32) -> u32;
     fn lcr_mad_sigma(v: *const f32, n: usize, sigma: *mut f32) -> u32;
     fn lcr_solve(a: *const f64, la: usize, b: *const f64, lb: usize, n: usize, x: *mut f64) -> u32;
@@ -22,8 +22,8 @@ unsafe extern "C" {
     fn lcr_apply(t: *const f64, u: f32, v: f32, x: *mut f32, y: *mut f32) -> u32;
     fn lcr_apply_all(t: *const f64, uv: *const f32, n: usize, xy: *mut f32, m: usize) -> u32;
     fn lcr_listing(record: *const u8, n: usize, text: *mut u8, len: *mut usize) -> u32;
-    fn lcr_classify(version: u8, lumas: *const f32, n: usize, marks: *mut bool, m: usize) -> u32;
-    fn lcr_correlate(version: u8, marks: *const bool, n: usize, score: *mut f32, corner: *mut usize, reversed: *mut bool, counts: *mut u16) -> u32;
+    fn lcr_classify(version: u32, lumas: *const f32, n: usize, marks: *mut bool, m: usize) -> u32;
+    fn lcr_correlate(version: u32, marks: *const bool, n: usize, score: *mut f32, corner: *mut usize, reversed: *mut bool, counts: *mut u16) -> u32;
     fn lcr_refine_quad(p: *const f32, n: usize, q: *mut f32, m: usize, buf: *mut f32, k: usize) -> u32;
     fn lcr_edge_quad(p: *const f32, n: usize, q: *mut f32, m: usize, cand: *mut f32, c: usize, buf: *mut f32, k: usize) -> u32;
     fn lcr_estimate_lens(p: *const f32, n: usize, q: *mut f32, m: usize, straight: *mut f32, c: usize, buf: *mut f32, k: usize) -> u32;
@@ -69,11 +69,11 @@ pub fn apply(t: &[f64; 11], u: f32, v: f32) -> (f32, f32) {
     (x, y)
 }
 
-pub fn classify(version: u8, lumas: &[f32], marks: &mut [bool]) -> u32 {
+pub fn classify(version: u32, lumas: &[f32], marks: &mut [bool]) -> u32 {
     unsafe { lcr_classify(version, lumas.as_ptr(), lumas.len(), marks.as_mut_ptr(), marks.len()) }
 }
 
-pub fn correlate(version: u8, marks: &[bool]) -> Result<(f32, usize, bool, [u16; 8]), u32> {
+pub fn correlate(version: u32, marks: &[bool]) -> Result<(f32, usize, bool, [u16; 8]), u32> {
     let (mut s, mut r, mut b, mut c) = (0.0, 0, false, [0; 8]);
     let n = unsafe { lcr_correlate(version, marks.as_ptr(), marks.len(), &mut s, &mut r, &mut b, c.as_mut_ptr()) };
     if n == 0 { Ok((s, r, b, c)) } else { Err(n) }
@@ -101,7 +101,7 @@ fn solution(x: Result<[f64; 8], u32>) -> Vec<u32> {
 
 /// Cells and positions: 10100 to 10106.
 fn cell_words(kind: u32, args: &[u32]) -> Vec<u32> {
-    let (v, x, y) = (args[0].try_into().unwrap_or(0), args[1] as i32, args[2] as i32);
+    let (v, x, y) = (args[0], args[1] as i32, args[2] as i32);
     let p = args[1] as usize | (args[2] as usize) << 32;
     let (mut side, mut n, mut a, mut b, mut light) = (0u16, 0usize, 0i32, 0i32, false);
     let (refused, words) = unsafe {
@@ -165,7 +165,7 @@ fn transform_words(kind: u32, args: &[u32]) -> Vec<u32> {
 
 /// 10700: the answer, then the lent marks after the call. 10702: the pose and the eight counts.
 fn marks_words(kind: u32, args: &[u32]) -> Vec<u32> {
-    let (v, n) = (args[0].try_into().unwrap_or(0), args[1] as usize);
+    let (v, n) = (args[0], args[1] as usize);
     if kind == 10700 {
         let mut marks: Vec<bool> = (0..n).map(|k| k % 3 == 0).collect();
         let refused = classify(v, &singles(&args[2..]), &mut marks);

@@ -3,7 +3,8 @@ use crate::calls::{Area, Call, Words, w32};
 use crate::looks::{Look, P, Q, bent, drawn, list, ring_of, rough_edges, tame, wild};
 use crate::pic::Rng;
 use crate::smaller::{Layout, Unit};
-use lcr_decode::ring;
+use lcr_decode::notes::{self, Note};
+use lcr_decode::{noted, ring};
 
 pub const AREA: Area = Area { name: "fit", stored, random, answer, layout };
 
@@ -122,10 +123,13 @@ fn samples(r: &mut Rng, n: u64) -> Vec<P> {
         .collect()
 }
 
-fn edge_of(a: P, b: P) -> (P, f32) {
-    let (dx, dy) = (b.0 - a.0, b.1 - a.1);
-    let len = (dx * dx + dy * dy).sqrt();
-    ((dx / len, dy / len), len)
+/// An edge's direction and length and the bands of its refits, as `refine_quad` has them; it has no bands for an edge
+/// under 16, and the least ones stand in.
+fn edge_of(a: P, b: P) -> (P, f32, [f32; 2]) {
+    let (notes, _) = notes::of(|| noted::refine_quad(&[], [a, b, a, b]));
+    let Some(&Note::Side((dx, dy), len)) = notes.first() else { unreachable!() };
+    let bands = if let Some(&Note::Bands(b)) = notes.get(1) { b } else { [2.0, 1.5] };
+    ((dx / len, dy / len), len, bands)
 }
 
 /// A ring whose top edge runs through the centre, with a quad whose top edge does not: the first pass has a
@@ -165,9 +169,9 @@ fn of_kind(kind: u32, r: &mut Rng, most: f64) -> Call {
             let g = drawn(r, most);
             let e = r.below(4) as usize;
             let (a, b) = (g.quad[e], g.quad[(e + 1) % 4]);
-            let (u, len) = edge_of(a, b);
+            let (u, len, bands) = edge_of(a, b);
             let line = if r.chance(0.8) { (a, u) } else { ((wild(r), wild(r)), (wild(r), wild(r))) };
-            let tols = if r.chance(0.9) { [(len * 0.02).max(2.0), 1.5] } else { [wild(r), wild(r)] };
+            let tols = if r.chance(0.9) { bands } else { [wild(r), wild(r)] };
             refit(&g.points, a, u, len, line, tols)
         }
         802 => {

@@ -96,8 +96,7 @@ fn hull_words(args: &[u32]) -> Vec<u32> {
 fn ring_words(args: &[u32]) -> Vec<u32> {
     let (c, rooms) = attempts::parse(args).unwrap();
     let mut lent = Ring::of(rooms.map(|n| n as usize));
-    // a version that is no u8 is none at all
-    let no = lent.call(&c.g, c.w as usize, c.h as usize, &c.nums, c.maxv.try_into().unwrap_or(0));
+    let no = lent.call(&c.g, c.w as usize, c.h as usize, &c.nums, c.maxv);
     let past = if no == 0 { c.nums.len() } else { 0 };
     let left = lent.lists.iter().flat_map(|l| l[past.min(l.len())..].iter().map(|&x| w32(x)));
     lent.words().into_iter().chain([0, no]).chain(left).collect()

@@ -136,7 +136,7 @@ fn stored() -> Vec<Call> {
             o.push(classify(700, v, positions(v), &lumas(kind, v, positions(v), &mut g)));
         }
     }
-    for v in [0, 1, 2, 64, 65, 255u32] {
+    for v in [0, 1, 2, 64, 65, 255, 257u32] {
         let n = if known(v) { positions(v) } else { 104 };
         for (a, b) in [(n, n), (n - 1, n), (n, n - 1), (n + 1, n), (n, n + 1), (0, 0), (n, 0), (0, n)] {
             for kind in [700, 701] {

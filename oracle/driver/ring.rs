@@ -1,12 +1,13 @@
 //! The search over versions and the ring door: `ring_transform`, `ring_lumas`, the loop of
 //! `correlate_quad`, `attempt`. Pictures are drawn, photographed and damaged rings, and others.
 use crate::calls::{Area, Call, Words, packed, w32, w64};
-use crate::looks::{P, Q, wild};
+use crate::looks::{Q, wild};
 use crate::pic::*;
 use crate::smaller::{Layout, Unit};
 use lcr_core::version::Version;
-use lcr_decode::ring;
+use lcr_decode::notes::{self, Note};
 use lcr_decode::transform::Transform;
+use lcr_decode::{noted, ring};
 
 pub const AREA: Area = Area { name: "ring", stored, random, answer, layout };
 
@@ -72,10 +73,12 @@ fn lumas(p: &Pic, t: &Transform, v: u8) -> Call {
     AREA.call(901, [vec![p.w, p.h, p.g.len() as u32, v as u32], eleven(t), packed(&p.g)].concat())
 }
 
-/// The outer side of a quad, as `correlate_quad` has it.
+/// The outer side of a quad, as `correlate_quad` has it before it tries a version.
 fn span(q: &Q) -> f32 {
-    let diag = |a: P, b: P| ((a.0 - b.0).powi(2) + (a.1 - b.1).powi(2)).sqrt();
-    (diag(q[0], q[2]) + diag(q[1], q[3])) / 2.0 / core::f32::consts::SQRT_2
+    let none = Version::new_unchecked(0);
+    let (notes, _) = notes::of(|| noted::correlate_quad(&[], 0, 0, *q, (0.0, 0.0, 0.0), 0, none));
+    let [Note::Span(span)] = notes[..] else { unreachable!() };
+    span
 }
 
 pub fn scores(s: &[(Version, f32, usize, bool)]) -> Vec<u32> {

@@ -1,69 +1,46 @@
 //! The ways through the ring door that a case takes: how the lens, the quads and the search end.
-use crate::att::{Case, pairs, refused};
+use crate::att::{Case, noted, refused};
 use crate::attempts::{args, nth, small, traced};
-use lcr_core::version::Version;
-use lcr_decode::ring::{self, RingTrace};
+use lcr_decode::notes::Note;
+use lcr_decode::ring::RingTrace;
 use std::collections::{BTreeMap, BTreeSet};
 
-/// How an estimate of the lens ends, by the last line of `lens_passes`.
-const ENDS: [(&str, &str); 7] = [
-    ("no quad", "no quad"),
-    ("short", "a short edge"),
-    ("thin", "few points"),
-    ("fit", "no fit"),
-    ("den", "no weight"),
-    ("disagree", "edges disagree"),
-    ("below", "below the least"),
-];
-
-fn top(t: &RingTrace) -> f32 {
-    t.scores.iter().map(|s| s.1).fold(0.0f32, f32::max)
-}
-
-/// The ways through the door that a case takes.
+/// The ways through the door that a case takes, as the Rust notes them.
 pub fn ways(c: &Case, rooms: [u32; 3]) -> Vec<String> {
-    let mut o: Vec<String> = Vec::new();
-    let mut add = |s: &str| o.push(s.to_string());
     if let Some(n) = refused(c, rooms) {
         return vec![format!("refused {n}")];
     }
-    let points = pairs(&c.nums);
+    let mut o: Vec<String> = Vec::new();
+    let mut add = |s: &str| o.push(s.to_string());
+    let (mut pass, mut both, mut fixed, mut tops) = (0, false, Vec::new(), Vec::new());
+    for n in noted(c) {
+        match n {
+            Note::Pass => pass += 1,
+            Note::End(why) => add(&format!("estimate: {why}, pass {pass}")),
+            Note::Lens((.., k)) => add(if k.is_nan() { "lens NaN" } else if k > 0.0 { "lens above 0" } else if k < 0.0 { "lens below 0" } else { "no lens" }),
+            Note::Hull(None) => add("no quad"),
+            Note::Refined(_, same) => add(if same { "quad not refined" } else { "quad refined" }),
+            Note::Edges(None, _) => add("no edge quad"),
+            Note::Edges(Some(_), true) => add("edge quad the same"),
+            Note::Edges(Some(_), false) => both = true,
+            Note::Tried(fix) => fixed.push(fix),
+            Note::Top(score) => tops.push(score),
+            _ => (),
+        }
+    }
+    if both {
+        add(match (&fixed[..], &tops[..]) {
+            ([true], _) => "both quads: edge quad fixed",
+            ([_, true], _) => "both quads: refined quad fixed",
+            (_, [a, b]) if a == b => "both quads: equal scores",
+            (_, [a, b]) if a > b => "both quads: edge quad's score",
+            _ => "both quads: refined quad's score",
+        });
+    }
     let t = traced(c);
-    let raw = ring::quad(&ring::convex_hull(&points));
-    let lens = ring::estimate_lens(&points, raw, (c.w as f32 / 2.0, c.h as f32 / 2.0));
-    add(if lens.2.is_nan() { "lens NaN" } else if lens.2 > 0.0 { "lens above 0" } else if lens.2 < 0.0 { "lens below 0" } else { "no lens" });
-    let (log, ..) = crate::att::lens_passes(&points, raw, (c.w as f32 / 2.0, c.h as f32 / 2.0));
-    let end = log.last().map_or("", |s| s.as_str());
-    for (sign, name) in ENDS {
-        if end.contains(sign) {
-            add(&format!("estimate: {name}, pass {}", if end.contains("pass 1") { 2 } else { 1 }));
-        }
+    if t.quad.is_some() {
+        o.extend(endings(&t));
     }
-    if t.quad.is_none() {
-        add("no quad");
-        return o;
-    }
-    let p = if lens.2 == 0.0 { points } else { ring::undistort(&points, lens) };
-    let q = ring::quad(&ring::convex_hull(&p)).unwrap();
-    let refined = ring::refine_quad(&p, q);
-    add(if refined == q { "quad not refined" } else { "quad refined" });
-    match ring::edge_quad(&p, q) {
-        None => add("no edge quad"),
-        Some(e) if ring::same_quad(&e, &refined, ring::CORNER_AGREE_PX) => add("edge quad the same"),
-        Some(e) => {
-            let m = Version::new_unchecked(c.maxv as u8);
-            let a = ring::correlate_quad(&c.g, c.w, c.h, e, lens, 0, m);
-            let b = ring::correlate_quad(&c.g, c.w, c.h, refined, lens, 0, m);
-            add(match (&a.fix, &b.fix) {
-                (Some(_), _) => "both quads: edge quad fixed",
-                (None, Some(_)) => "both quads: refined quad fixed",
-                _ if top(&a) == top(&b) => "both quads: equal scores",
-                _ if top(&a) > top(&b) => "both quads: edge quad's score",
-                _ => "both quads: refined quad's score",
-            });
-        }
-    }
-    o.extend(endings(&t));
     o
 }
 
@@ -77,8 +54,8 @@ fn endings(t: &RingTrace) -> Vec<String> {
     if t.scores.iter().enumerate().any(|(i, s)| s.0.get() as usize != i + 1) {
         add("a version skipped");
     }
-    let best = top(t);
-    if t.scores.iter().filter(|s| s.1 == best).count() > 1 {
+    let best = t.scores.iter().map(|s| s.1).max_by(f32::total_cmp);
+    if t.scores.iter().filter(|s| Some(s.1) == best).count() > 1 {
         add("two greatest scores");
     }
     add(if t.fix.is_some() { "fix" } else if t.fallback.is_some() { "fallback" } else { "neither fix nor fallback" });

@@ -10,6 +10,9 @@
  *   lists that are only read are as before, on a refusal or LCR_NONE all lists are;
  *   in an accepted call the places past those needed are as before.
  *
+ * Before these calls, numbers that are no version (65, 256, 257, 4,294,967,295 among them) are handed to every function
+ * that takes one, and each must be refused by 8.
+ *
  * The calls of a function run on a stack of their own, filled with one byte before: of each function it prints how
  * many bytes of it were used, this program's own frames among them.
  */
@@ -118,8 +121,15 @@ static void doubles(double *to, size_t n) {
     int kind = (int)below(3), strange = odds(5) ? 6 : 0;
     for (size_t i = 0; i < n; i++) to[i] = (strange && odds(strange)) ? (double)number(3) : (double)number(kind) - (double)number(1) / 3;
 }
-static uint8_t version(void) { return odds(8) ? (uint8_t)next() : (uint8_t)(1 + below(odds(3) ? 64 : 6)); }
-static int is_version(unsigned v) { return v >= 1 && v <= 64; }
+/* Numbers that are no version, some with the last byte of one. */
+static const uint32_t no_version[] = {0, 65, 255, 256, 257, 320, 65537, UINT32_MAX};
+enum { NO_VERSIONS = sizeof no_version / sizeof *no_version };
+static uint32_t version(void) {
+    return odds(8) ? odds(2) ? no_version[below(NO_VERSIONS)] : (uint32_t)next() : (uint32_t)(1 + below(odds(3) ? 64 : 6));
+}
+/* The positions of a version; of another number those that its last byte would have. */
+static size_t positions_of(uint32_t v) { return 16u * (v % 256) + 88u; }
+static int is_version(uint32_t v) { return v >= 1 && v <= 64; }
 static int32_t coordinate(void) {
     return odds(8) ? (int32_t)(uint32_t)next() : odds(8) ? (odds(2) ? 32766 : -32770) + (int32_t)below(4) : (int32_t)below(40) - 8;
 }
@@ -147,7 +157,7 @@ static void paint(uint8_t *p, size_t n, size_t w) {
 static void ring(size_t *w, size_t *h) {
     uint16_t side;
     size_t n;
-    uint8_t v = (uint8_t)(1 + below(3));
+    uint32_t v = (uint32_t)(1 + below(3));
     int turn = (int)below(4), mirrored = odds(2);
     lcr_version(v, &side, &n);
     size_t s = (size_t)side + 6, pitch = 3 + below(3), wide = (s + 4) * pitch;
@@ -185,7 +195,7 @@ static void gray(size_t most, size_t *w, size_t *h) {
 
 static size_t w, h, box[4], size;
 static uint32_t want, word;
-static uint8_t ver;
+static uint32_t ver;
 static int32_t cell[2];
 static float place[3];
 
@@ -328,13 +338,13 @@ static uint32_t call_light(void) { return lcr_sequence_light(ver, size, at(2)); 
 
 static size_t marks_of(void) {
     ver = version();
-    return odds(10) ? below(1200) : 16u * ver + 88u;
+    return odds(10) ? below(1200) : positions_of(ver);
 }
 static uint32_t make_classify(void) {
-    size_t n = marks_of(), m = odds(10) ? below(1200) : 16u * ver + 88u;
+    size_t n = marks_of(), m = odds(10) ? below(1200) : positions_of(ver);
     floats(add(n, 4, 0, 4), n, (int)below(3), odds(4) ? 20 : 0);
     add(m, 1, 1, 0);
-    return !is_version(ver) ? LCR_VERSION : n == 16u * ver + 88u && m == n ? LCR_OK : LCR_MARKS;
+    return !is_version(ver) ? LCR_VERSION : n == positions_of(ver) && m == n ? LCR_OK : LCR_MARKS;
 }
 static uint32_t call_classify(void) { return lcr_classify(ver, at(0), len(0), at(1), len(1)); }
 
@@ -343,7 +353,7 @@ static uint32_t make_correlate(void) {
     uint8_t *m = add(n, 1, 0, 0);
     for (size_t i = 0; i < n; i++) m[i] &= 1;
     add(1, 4, 1, 4), add(1, sizeof(size_t), 1, 0), add(1, 1, 1, 0), add(8, 2, 1, 0);
-    return !is_version(ver) ? LCR_VERSION : n == 16u * ver + 88u ? LCR_OK : LCR_MARKS;
+    return !is_version(ver) ? LCR_VERSION : n == positions_of(ver) ? LCR_OK : LCR_MARKS;
 }
 static uint32_t call_correlate(void) { return lcr_correlate(ver, at(0), len(0), at(1), at(2), at(3), at(4)); }
 
@@ -488,6 +498,37 @@ static uint32_t both(int door) {
     return a;
 }
 
+/* ---- every number that is no version, handed to every function that takes one: refused by 8 */
+
+static void refuse_versions(void) {
+    enum { MOST = 16 * 255 + 88 };
+    static float lumas[MOST];
+    static bool marks[MOST];
+    uint8_t g[4] = {0};
+    uint16_t side, eight[8];
+    size_t a, b;
+    int32_t x, y;
+    bool is;
+    float s, lent[3], quad[8], scores[LCR_SCORES];
+    double fix[15], fallback[15];
+    for (int i = 0; i < NO_VERSIONS; i++) {
+        uint32_t v = no_version[i];
+        size_t n = positions_of(v);
+        uint32_t answers[] = {
+            lcr_version(v, &side, &a), lcr_shell(v, 0, 0, &a), lcr_edge_and_offset(v, 0, 0, &a, &x), lcr_position(v, 0, 0, &a),
+            lcr_outer_cell(v, 0, &x, &y), lcr_inner_cell(v, 0, &x, &y), lcr_sequence_light(v, 0, &is),
+            lcr_classify(v, lumas, n, marks, n), lcr_correlate(v, marks, n, &s, &a, &is, eight),
+            lcr_attempt(g, 4, 2, 2, lumas, 0, v, lent, 1, lent + 1, 1, lent + 2, 1, &a, &is, quad, &b, scores, fix, fallback),
+        };
+        for (size_t k = 0; k < sizeof answers / sizeof *answers; k++)
+            if (answers[k] != LCR_VERSION) {
+                fprintf(stderr, "guards: version %u answered %u by function %zu of those that take one\n", v, answers[k], k + 1);
+                exit(1);
+            }
+    }
+    printf("%d numbers that are no version, refused by 8 in every function that takes one\n", NO_VERSIONS);
+}
+
 /* ---- all calls of a function, on a stack of their own */
 
 enum { DEEP = 8 << 20, PAINT = 0xA5 };
@@ -528,6 +569,7 @@ int main(int argc, char **argv) {
     struct sigaction s = {.sa_handler = touched};
     seed = strtoull(argv[1], 0, 10), calls = strtoull(argv[2], 0, 10);
     sigaction(SIGSEGV, &s, 0), sigaction(SIGBUS, &s, 0);
+    refuse_versions();
     make_areas();
     deep = mmap(0, DEEP, PROT_READ | PROT_WRITE, MAP_PRIVATE | MAP_ANONYMOUS, -1, 0);
     if (deep == MAP_FAILED) return perror("guards"), 2;

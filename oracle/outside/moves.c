@@ -433,7 +433,7 @@ static void counts(int v, const bool *marks, uint16_t out[8]) {
     float score;
     size_t corner;
     bool reversed;
-    if (lcr_correlate((uint8_t)v, marks, (size_t)(16 * v + 88), &score, &corner, &reversed, out)) {
+    if (lcr_correlate((uint32_t)v, marks, (size_t)(16 * v + 88), &score, &corner, &reversed, out)) {
         fprintf(stderr, "moves: correlate refused\n");
         exit(2);
     }

@@ -1,6 +1,7 @@
 // Which score is a fix: `accept` of the Rust's ring.rs.
 use hull::points::Point;
 use hull::points::Quad;
+use lcr_core::version::Version;
 use lens::straight::Lens;
 use search::versions::Score;
 use search::versions::Scores;
@@ -171,7 +172,7 @@ fn fix_of(q: Quad, s: Score, l: Lens) -> Fixed
     ensures { λ r. ⌜ r ≡ fixOf q s l ⌝ }
 {
     let z = turned(q, s.corner % 4, s.mirrored);
-    let side = search::geometry::side_of(s.version);
+    let side = Version::side_of(s.version);
     fixed_by(s, search::geometry::ring_transform(z, side, l))
 }
 

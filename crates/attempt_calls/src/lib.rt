@@ -111,7 +111,7 @@ fn made(
 {
     let w = words::many(args[0]);
     let h = words::many(args[1]);
-    let most = (args[2] % 256) as u8;
+    let most = args[2];
     lend(x);
     lend(y);
     lend(z);

@@ -92,7 +92,7 @@ fn put_trace(t: Trace, out: &mut [u32]) -> usize {
 }
 
 // The trace, or the refusal's number.
-pub fn answered(r: Answer, out: &mut [u32]) -> usize {
+pub(crate) fn answered(r: Answer, out: &mut [u32]) -> usize {
     let o = r.outcome;
     let t = r.trace;
     match o {

@@ -7,62 +7,88 @@
 // agreement` and eleven f64; `fallback` likewise. Floats are the hex of their bits, a NaN `nan`.
 //
 // At most 1,048,576 pixel bytes; a cut or longer record is `refused 13`.
-ghost use Prim.Native.Nat.{_≤_};
-ghost use lib.ListN.{length};
 use packed::word_at;
-use words::floats;
+ghost use mathlib.Core.Path.{_≡_};
+ghost use Prim.Native.Nat.{_≤_};
+ghost use lib.ListN.{length, replicate};
+ghost use Rattle.laws.specs.Lent.{Stored};
+ghost use Rattle.packed.specs.Words.{wordAt};
+ghost use Rattle.ring.specs.Door.{answerOf};
+ghost use Rattle.attempt_text.specs.Attempt.{checkAttempt};
+ghost use Rattle.attempt_text.specs.Traced.{answerText, textOf, filled};
 
-pub mod digits;
-pub mod lines;
+mod lines;
+mod pieces;
+mod record;
 
-// The numbers of a list whose bytes begin at a place.
-fn read(s: &[u8], from: usize, list: &mut [f32])
-    requires { ⌜ (from ≤ 1048596) × (length (now list) ≤ 32770) ⌝ }
+// A text: its bytes, with zeros after them, and how many there are.
+pub struct Printed {
+    pub bytes: [u8; 4096],
+    pub len: usize,
+}
+
+// The text of an attempt. Bytes after the record do not matter.
+pub fn text(input: &[u8]) -> Printed
+    ensures { λ r. ⌜ r .bytes ≡ filled (textOf (now (input .entry))) ⌝ }
+    ensures { λ r. ⌜ r .len ≡ length (textOf (now (input .entry))) ⌝ }
+    ensures { λ r. ⌜ r .len ≤ 4096 ⌝ }
 {
-    let mut k: usize = 0;
-    while k < list.len() {
-        list[k] = floats::f32_of(word_at(s, from + 4 * k));
-        k += 1;
+    let mut bytes = room();
+    let n = record::check(input);
+    if n != 0 {
+        let end = lines::refused(n, &mut bytes);
+        return Printed {
+            bytes: bytes,
+            len: end,
+        };
+    }
+    let end = accepted(input, &mut bytes);
+    Printed {
+        bytes: bytes,
+        len: end,
     }
 }
 
-// A greatest version as a byte, or 255 where it is more.
-fn version(v: u32) -> u8 {
-    if 255 < v {
-        return 255;
-    }
-    v as u8
+// Room for a text.
+fn room() -> [u8; 4096]
+    ensures { λ r. ⌜ r ≡ replicate 4096 0 ⌝ }
+{
+    [0; 4096]
 }
 
-// The text of an attempt, at the beginning of `out`, and how many bytes it has.
-pub fn text(record: &[u8], out: &mut [u8]) -> usize {
-    if record.len() < 20 {
-        return lines::refused(13, out);
-    }
-    let n = words::many(word_at(record, 12));
-    if 1048576 < n {
-        return lines::refused(13, out);
-    }
+// The text of an accepted record.
+fn accepted(input: &[u8], out: &mut [u8]) -> usize
+    requires { ⌜ checkAttempt (now input) ≡ 0 ⌝ }
+    requires { ⌜ 3360 ≤ length (now out) ⌝ }
+    ensures { λ r. ⌜
+        Stored 0 (textOf (now (input .entry))) (now (out .entry)) (now (out .exit)) r ⌝ }
+    ensures { λ r. ⌜ r ≤ 3360 ⌝ }
+{
+    let n = record::pixel_count(input);
+    let m = record::number_count(input);
     let end = 20 + n;
-    if record.len() < end {
-        return lines::refused(13, out);
-    }
-    let m = words::at_most(words::many(word_at(record, 16)), 32770);
-    if record.len() - end < 4 * m {
-        return lines::refused(13, out);
-    }
     let mut points = packed::list_room();
-    read(record, end, &mut points[..m]);
-    of_points(record, &record[20..end], &points[..m], out)
+    record::read(input, end, &mut points[..m]);
+    answered(input, &input[20..end], &points[..m], out)
 }
 
-fn of_points(record: &[u8], gray: &[u8], points: &[f32], out: &mut [u8]) -> usize {
+// The text of the door's answer to the picture and the points of a record.
+fn answered(input: &[u8], gray: &[u8], points: &[f32], out: &mut [u8]) -> usize
+    requires { ⌜ 3360 ≤ length (now out) ⌝ }
+    ensures { λ r. ⌜
+        Stored 0
+        (answerText (answerOf (now (gray .entry)) (wordAt (now (input .entry)) 0)
+        (wordAt (now (input .entry)) 4) (now (points .entry)) (wordAt (now (input .entry)) 8)
+        32770 32770 32770))
+        (now (out .entry)) (now (out .exit)) r ⌝ }
+    ensures { λ r. ⌜ r ≤ 3360 ⌝ }
+{
     let mut x = packed::list_room();
     let mut y = packed::list_room();
     let mut z = packed::list_room();
-    let w = words::many(word_at(record, 0));
-    let h = words::many(word_at(record, 4));
-    let most = version(word_at(record, 8));
+    let w = words::many(word_at(input, 0));
+    let h = words::many(word_at(input, 4));
+    let most = word_at(input, 8);
     let r = ring::door::attempt(gray, w, h, points, most, &mut x, &mut y, &mut z);
     lines::answered(r, out)
 }

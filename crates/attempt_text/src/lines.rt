@@ -1,68 +1,100 @@
-// The lines of a trace.
-ghost use Prim.Native.Nat.{_≤_};
-use crate::digits::put;
-use crate::digits::put_number;
-use crate::digits::put_word;
-use crate::digits::put32;
-use crate::digits::put64;
+// The lines of a trace. Each function has room for the longest numbers of their types, not only for
+// those that a trace has.
+use crate::pieces::flag;
+use crate::pieces::put_count;
+use crate::pieces::put_doubles;
+use crate::pieces::put_single;
+use crate::pieces::put_singles;
+use crate::pieces::put_small;
 use accept::Fix;
 use accept::Fixed;
 use hull::points::Corners;
-use hull::points::Point;
 use hull::points::Quad;
 use ring::door::Answer;
 use ring::door::Outcome;
 use ring::quads::Trace;
 use search::versions::Score;
 use search::versions::Scores;
+use text::put_byte;
+use text::put_word;
 use transform::Transform;
+ghost use mathlib.Core.Path.{_≡_};
+ghost use mathlib.Core.List.{[], _∷_, _++_};
+ghost use Prim.Native.Nat.{_+_, _*_, _≤_};
+ghost use lib.ListN.{length};
+ghost use Rattle.laws.specs.Lent.{Stored};
+ghost use Rattle.text.specs.Text.{lineOf, refusedWord};
+ghost use Rattle.hull.specs.Quad.{valuesOf};
+ghost use Rattle.hull.specs.declared.points.Corners.the-variants.{Found};
+ghost use Rattle.attempt_text.specs.Traced.{each, double, end, mapValues};
+ghost use Rattle.attempt_text.specs.Traced.{quadText, scoreLine, scoreLines, scoresText};
+ghost use Rattle.attempt_text.specs.Traced.{fixText, ringText, traceText, answerText};
 
 // A line of a word alone.
-fn line(out: &mut [u8], at: usize, word: &[u8]) -> usize {
+fn line(out: &mut [u8], at: usize, word: &[u8]) -> usize
+    requires { ⌜ at + (length (now word) + 1) ≤ length (now out) ⌝ }
+    ensures { λ r. ⌜ Stored at (now (word .entry) ++ end) (now (out .entry)) (now (out .exit)) r ⌝ }
+    ensures { λ r. ⌜ r ≡ at + (length (now (word .entry)) + 1) ⌝ }
+{
     let a = put_word(out, at, word);
-    put(out, a, b'\n')
+    put_byte(out, a, b'\n')
 }
 
 // A line of a word and a number.
-fn counted(out: &mut [u8], at: usize, word: &[u8], n: u32) -> usize {
+fn counted(out: &mut [u8], at: usize, word: &[u8], n: usize) -> usize
+    requires { ⌜ at + (length (now word) + 22) ≤ length (now out) ⌝ }
+    ensures { λ r. ⌜
+        Stored at (lineOf (now (word .entry)) (n ∷ [])) (now (out .entry)) (now (out .exit)) r ⌝ }
+    ensures { λ r. ⌜ r ≤ at + (length (now (word .entry)) + 22) ⌝ }
+{
     let a = put_word(out, at, word);
-    let b = put_number(out, a, n);
-    put(out, b, b'\n')
+    let b = put_count(out, a, n);
+    put_byte(out, b, b'\n')
 }
 
-fn put_point(out: &mut [u8], at: usize, p: Point) -> usize {
-    let a = put32(out, at, p.x);
-    put32(out, a, p.y)
+// The line of a quad's corners.
+fn put_quad(out: &mut [u8], at: usize, q: Quad) -> usize
+    requires { ⌜ at + 77 ≤ length (now out) ⌝ }
+    ensures { λ r. ⌜ Stored at (quadText (Found q)) (now (out .entry)) (now (out .exit)) r ⌝ }
+    ensures { λ r. ⌜ r ≤ at + 77 ⌝ }
+{
+    let xs = [q.a.x, q.a.y, q.b.x, q.b.y, q.c.x, q.c.y, q.d.x, q.d.y];
+    let a = put_word(out, at, b"quad");
+    let b = put_singles(out, a, &xs);
+    put_byte(out, b, b'\n')
 }
 
-fn put_quad(out: &mut [u8], at: usize, q: Quad) -> usize {
-    let w = put_word(out, at, b"quad");
-    let a = put_point(out, w, q.a);
-    let b = put_point(out, a, q.b);
-    let c = put_point(out, b, q.c);
-    let d = put_point(out, c, q.d);
-    put(out, d, b'\n')
+// The line of a quad or none.
+fn put_corners(out: &mut [u8], at: usize, c: Corners) -> usize
+    requires { ⌜ at + 77 ≤ length (now out) ⌝ }
+    ensures { λ r. ⌜ Stored at (quadText c) (now (out .entry)) (now (out .exit)) r ⌝ }
+    ensures { λ r. ⌜ r ≤ at + 77 ⌝ }
+{
+    let Corners::Found(q) = c else {
+        return line(out, at, b"quad none");
+    };
+    put_quad(out, at, q)
 }
 
-fn put_corners(out: &mut [u8], at: usize, c: Corners) -> usize {
-    match c {
-        Corners::Found(q) => put_quad(out, at, q),
-        Corners::NoQuad => line(out, at, b"quad none"),
-    }
-}
-
-fn put_score(out: &mut [u8], at: usize, s: Score) -> usize {
+// The line of a score.
+fn put_score(out: &mut [u8], at: usize, s: Score) -> usize
+    requires { ⌜ at + 44 ≤ length (now out) ⌝ }
+    ensures { λ r. ⌜ Stored at (scoreLine s) (now (out .entry)) (now (out .exit)) r ⌝ }
+    ensures { λ r. ⌜ r ≤ at + 44 ⌝ }
+{
     let w = put_word(out, at, b"score");
-    let a = put_number(out, w, s.version as u32);
-    let b = put32(out, a, s.agreement);
-    let c = put_number(out, b, (s.corner % 65536) as u32);
-    let d = put_number(out, c, words::flag(s.mirrored));
-    put(out, d, b'\n')
+    let a = put_small(out, w, s.version);
+    let b = put_single(out, a, s.agreement);
+    let c = put_count(out, b, s.corner);
+    let d = put_small(out, c, flag(s.mirrored));
+    put_byte(out, d, b'\n')
 }
 
 // The lines of the first n scores.
 fn put_list(out: &mut [u8], at: usize, list: [Score; 64], n: usize) -> usize
-    requires { ⌜ n ≤ 64 ⌝ }
+    requires { ⌜ (n ≤ 64) × (at + 44 * n ≤ length (now out)) ⌝ }
+    ensures { λ r. ⌜ Stored at (scoreLines list n) (now (out .entry)) (now (out .exit)) r ⌝ }
+    ensures { λ r. ⌜ r ≤ at + 44 * n ⌝ }
 {
     let mut to = at;
     let mut k: usize = 0;
@@ -73,52 +105,78 @@ fn put_list(out: &mut [u8], at: usize, list: [Score; 64], n: usize) -> usize
     to
 }
 
-fn put_scores(out: &mut [u8], at: usize, s: Scores) -> usize {
-    let n = words::at_most(s.many, 64);
-    let a = counted(out, at, b"scores", n as u32);
+// How many scores there are, and their lines.
+fn put_scores(out: &mut [u8], at: usize, s: Scores) -> usize
+    requires { ⌜ (s .many ≤ 64) × (at + 2844 ≤ length (now out)) ⌝ }
+    ensures { λ r. ⌜ Stored at (scoresText s) (now (out .entry)) (now (out .exit)) r ⌝ }
+    ensures { λ r. ⌜ r ≤ at + 2844 ⌝ }
+{
+    let a = counted(out, at, b"scores", s.many);
     let list = s.list;
-    put_list(out, a, list, n)
+    put_list(out, a, list, s.many)
 }
 
-fn put_three(out: &mut [u8], at: usize, x: f64, y: f64, z: f64) -> usize {
-    let a = put64(out, at, x);
-    let b = put64(out, a, y);
-    put64(out, b, z)
+// The eleven numbers of a transform.
+fn put_map(out: &mut [u8], at: usize, t: Transform) -> usize
+    requires { ⌜ at + 187 ≤ length (now out) ⌝ }
+    ensures { λ r. ⌜
+        Stored at (each double (mapValues t)) (now (out .entry)) (now (out .exit)) r ⌝ }
+    ensures { λ r. ⌜ r ≤ at + 187 ⌝ }
+{
+    let xs = [
+        t.m0,
+        t.m1,
+        t.m2,
+        t.m3,
+        t.m4,
+        t.m5,
+        t.m6,
+        t.m7,
+        t.cx,
+        t.cy,
+        t.kappa,
+    ];
+    put_doubles(out, at, &xs)
 }
 
-fn put_map(out: &mut [u8], at: usize, t: Transform) -> usize {
-    let a = put_three(out, at, t.m0, t.m1, t.m2);
-    let b = put_three(out, a, t.m3, t.m4, t.m5);
-    let c = put64(out, b, t.m6);
-    let d = put64(out, c, t.m7);
-    put_three(out, d, t.cx, t.cy, t.kappa)
-}
-
-fn put_ring(out: &mut [u8], at: usize, f: Fix) -> usize {
+// What stands of a ring after its word.
+fn put_ring(out: &mut [u8], at: usize, f: Fix) -> usize
+    requires { ⌜ at + 201 ≤ length (now out) ⌝ }
+    ensures { λ r. ⌜ Stored at (ringText f) (now (out .entry)) (now (out .exit)) r ⌝ }
+    ensures { λ r. ⌜ r ≤ at + 201 ⌝ }
+{
     let map = f.map;
-    let a = put_number(out, at, f.version as u32);
-    let b = put32(out, a, f.agreement);
-    put_map(out, b, map)
+    let a = put_small(out, at, f.version);
+    let b = put_single(out, a, f.agreement);
+    let c = put_map(out, b, map);
+    put_byte(out, c, b'\n')
 }
 
-// The line of a ring or none, after its first word.
-fn put_fixed(out: &mut [u8], at: usize, word: &[u8], f: Fixed) -> usize {
+// The line of a ring or none, after its word.
+fn put_fixed(out: &mut [u8], at: usize, word: &[u8], f: Fixed) -> usize
+    requires { ⌜ at + (length (now word) + 201) ≤ length (now out) ⌝ }
+    ensures { λ r. ⌜
+        Stored at (fixText (now (word .entry)) f) (now (out .entry)) (now (out .exit)) r ⌝ }
+    ensures { λ r. ⌜ r ≤ at + (length (now (word .entry)) + 201) ⌝ }
+{
     let w = put_word(out, at, word);
-    match f {
-        Fixed::At(x) => {
-            let a = put_ring(out, w, x);
-            put(out, a, b'\n')
-        }
-        Fixed::NoFix => line(out, w, b" none"),
-    }
+    let Fixed::At(x) = f else {
+        return line(out, w, b" none");
+    };
+    put_ring(out, w, x)
 }
 
-fn traced(t: Trace, out: &mut [u8]) -> usize {
+// The lines of a trace.
+fn traced(t: Trace, out: &mut [u8]) -> usize
+    requires { ⌜ (t .scores .many ≤ 64) × (3360 ≤ length (now out)) ⌝ }
+    ensures { λ r. ⌜ Stored 0 (traceText t) (now (out .entry)) (now (out .exit)) r ⌝ }
+    ensures { λ r. ⌜ r ≤ 3360 ⌝ }
+{
     let quad = t.quad;
     let scores = t.scores;
     let fix = t.fix;
     let fallback = t.fallback;
-    let a = counted(out, 0, b"hull", (t.hull % 65536) as u32);
+    let a = counted(out, 0, b"hull", t.hull);
     let b = put_corners(out, a, quad);
     let c = put_scores(out, b, scores);
     let d = put_fixed(out, c, b"fix", fix);
@@ -126,12 +184,21 @@ fn traced(t: Trace, out: &mut [u8]) -> usize {
 }
 
 // The line of a refusal.
-pub fn refused(n: u32, out: &mut [u8]) -> usize {
-    counted(out, 0, b"refused", n)
+pub(crate) fn refused(n: u32, out: &mut [u8]) -> usize
+    requires { ⌜ 3360 ≤ length (now out) ⌝ }
+    ensures { λ r. ⌜
+        Stored 0 (lineOf refusedWord (n ∷ [])) (now (out .entry)) (now (out .exit)) r ⌝ }
+    ensures { λ r. ⌜ r ≤ 3360 ⌝ }
+{
+    counted(out, 0, b"refused", n as usize)
 }
 
 // The text of the door's answer.
-pub fn answered(r: Answer, out: &mut [u8]) -> usize {
+pub(crate) fn answered(r: Answer, out: &mut [u8]) -> usize
+    requires { ⌜ (r .trace .scores .many ≤ 64) × (3360 ≤ length (now out)) ⌝ }
+    ensures { λ e. ⌜ Stored 0 (answerText r) (now (out .entry)) (now (out .exit)) e ⌝ }
+    ensures { λ e. ⌜ e ≤ 3360 ⌝ }
+{
     let outcome = r.outcome;
     let trace = r.trace;
     match outcome {

@@ -19,7 +19,7 @@ pub fn answer(kind: u32, args: &[u32], out: &mut [u32]) -> usize {
     if args.len() < 3 {
         return 0;
     }
-    let v = (args[0] % 256) as u8;
+    let v = args[0];
     if kind == 100 {
         return version(v, out);
     }
@@ -30,7 +30,7 @@ pub fn answer(kind: u32, args: &[u32], out: &mut [u32]) -> usize {
     of_position(kind, v, p, out)
 }
 
-fn version(v: u8, out: &mut [u32]) -> usize {
+fn version(v: u32, out: &mut [u32]) -> usize {
     let known = Version::new(v);
     match known {
         VersionAnswer::Known(w) => words::three(
@@ -43,7 +43,7 @@ fn version(v: u8, out: &mut [u32]) -> usize {
     }
 }
 
-fn of_cell(kind: u32, v: u8, x: i32, y: i32, out: &mut [u32]) -> usize {
+fn of_cell(kind: u32, v: u32, x: i32, y: i32, out: &mut [u32]) -> usize {
     if kind == 101 {
         return shell(v, x, y, out);
     }
@@ -53,7 +53,7 @@ fn of_cell(kind: u32, v: u8, x: i32, y: i32, out: &mut [u32]) -> usize {
     position(v, x, y, out)
 }
 
-fn shell(v: u8, x: i32, y: i32, out: &mut [u32]) -> usize {
+fn shell(v: u32, x: i32, y: i32, out: &mut [u32]) -> usize {
     let answer = doors::shell(v, x, y);
     match answer {
         ShellAnswer::Depth(d) => words::two(out, 0, (d % 4294967296) as u32),
@@ -61,7 +61,7 @@ fn shell(v: u8, x: i32, y: i32, out: &mut [u32]) -> usize {
     }
 }
 
-fn edge(v: u8, x: i32, y: i32, out: &mut [u32]) -> usize {
+fn edge(v: u32, x: i32, y: i32, out: &mut [u32]) -> usize {
     let answer = doors::edge_and_offset(v, x, y);
     match answer {
         EdgeAnswer::Along(e, offset) => words::three(out, 0, (e % 4) as u32, words::bits(offset)),
@@ -69,7 +69,7 @@ fn edge(v: u8, x: i32, y: i32, out: &mut [u32]) -> usize {
     }
 }
 
-fn position(v: u8, x: i32, y: i32, out: &mut [u32]) -> usize {
+fn position(v: u32, x: i32, y: i32, out: &mut [u32]) -> usize {
     let answer = doors::position(v, x, y);
     match answer {
         PlaceAnswer::At(p) => words::three(out, 0, 1, (p % 4294967296) as u32),
@@ -78,7 +78,7 @@ fn position(v: u8, x: i32, y: i32, out: &mut [u32]) -> usize {
     }
 }
 
-fn of_position(kind: u32, v: u8, p: usize, out: &mut [u32]) -> usize {
+fn of_position(kind: u32, v: u32, p: usize, out: &mut [u32]) -> usize {
     if kind == 104 {
         return found(doors::outer_cell(v, p), out);
     }
@@ -104,7 +104,7 @@ fn found(answer: CellAnswer, out: &mut [u32]) -> usize {
     }
 }
 
-fn mark(v: u8, p: usize, out: &mut [u32]) -> usize {
+fn mark(v: u32, p: usize, out: &mut [u32]) -> usize {
     let answer = doors::sequence_light(v, p);
     match answer {
         MarkAnswer::Light(light) => words::two(out, 0, words::flag(light)),
@@ -113,7 +113,7 @@ fn mark(v: u8, p: usize, out: &mut [u32]) -> usize {
 }
 
 // The mark at a position as a bit, 0 where the version is refused.
-fn mark_bit(v: u8, p: usize) -> u32
+fn mark_bit(v: u32, p: usize) -> u32
     ensures { λ r. ⌜ r ≤ 1 ⌝ }
 {
     let answer = doors::sequence_light(v, p);
@@ -123,7 +123,7 @@ fn mark_bit(v: u8, p: usize) -> u32
     }
 }
 
-fn marks(v: u8, p: usize, out: &mut [u32]) -> usize
+fn marks(v: u32, p: usize, out: &mut [u32]) -> usize
     requires { ⌜ p < 65536 ⌝ }
 {
     let mut word: u32 = 0;

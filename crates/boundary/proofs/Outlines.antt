@@ -14,8 +14,8 @@ use Rattle.laws.specs.Move.{Move, still, flipped, turned, sidesOf, wideOf, high
 use Rattle.whole.specs.Points.{Pt, Rot, NoDup, Clockwise, Starts}
 use Rattle.whole.specs.Hull.{walk, hull}
 use Rattle.whole.specs.Quad.{quad, Far, OneTop}
-use Rattle.whole.proofs.Hulls.{hull-run, start-least}
-use Rattle.whole.proofs.IsHull.{IsHull, hull-is}
+use Rattle.whole.proofs.IsHull.{hull-is}
+use Rattle.whole.proofs.Clockwise.{quad-clockwise}
 use Rattle.regions.specs.Cells.{groupsOf, groupSize}
 use Rattle.regions.specs.Kept.{keptCount, keptLabel}
 use Rattle.regions.specs.Boxes.{regionBox}
@@ -116,17 +116,6 @@ hull-small L s = picked L s (hullOf (floatsOf L) (length L))
 quad-both : (L : List (ℕ × ℕ)) → Small L → ptsOf (quadPoints (hullPoints L)) ≡ quad (hull (ptsOf L))
 quad-both L s = quad-exact (hullPoints L) (hull-small L s) ∙ ap quad (hull-exact L s)
 
--- each vertex once, clockwise
-once : (P : List Pt) → NoDup (hull P) × Clockwise (hull P)
-once [] = unfold hull walk in (tt, tt)
-once (p ∷ P) = let r = hull-is (p ∷ P) (omega arith) in (r .distinct, r .clockwise)
-
-starts : (P : List Pt) → Starts (hull P) P
-starts [] = unfold hull walk in tt
-starts (p ∷ P) =
-    let h = hull-run (p ∷ P) (omega arith) in
-    subst (λ (l : List Pt). Starts l (p ∷ P)) (sym (h .1)) (start-least (p ∷ P) (omega arith))
-
 module _ (m : Move) (W H : ℕ) (posW : 0 < W) (posH : 0 < H) (lessW : 16 * W ≤ 1024) (lessH : 16 * H ≤ 1024) (p p′ : Plane)
     (same : Alike (wideOf m (16 * W) (16 * H)) (highOf m (16 * W) (16 * H)) p′ (moved m (16 * W) (16 * H) p))
     (untied : Untied (groupSize p (16 * W) (16 * H)) (groupsOf p (16 * W) (16 * H))) (i : ℕ) (l : i < keptCount p (16 * W) (16 * H))
@@ -171,12 +160,12 @@ module _ (m : Move) (W H : ℕ) (posW : 0 < W) (posH : 0 < H) (lessW : 16 * W �
       (hull-round m w h (ptsOf L) (ptsOf L′) (same-of m w h (ptsOf L) (ptsOf L′) (points-of m W H posW posH p p′ same untied i l k)))
 
   pub hull-starts : Starts (ptsOf (hullPoints L′)) (ptsOf L′)
-  hull-starts = rw (hull-exact L′ small′) (starts (ptsOf L′))
+  hull-starts = rw (hull-exact L′ small′) (hull-is (ptsOf L′) .starts)
 
   pub hull-once : NoDup (ptsOf (hullPoints L′)) × Clockwise (ptsOf (hullPoints L′))
-  hull-once = rw (hull-exact L′ small′) (once (ptsOf L′))
+  hull-once = rw (hull-exact L′ small′) (hull-is (ptsOf L′) .distinct, hull-is (ptsOf L′) .clockwise)
 
-  -- The quad is none in both, or has the moved corners, clockwise from some corner.
+  -- The quad is none in both, or has the moved corners; and it runs clockwise, with no condition.
   pub quad-of : (a c : Pt) → Far (ptsOf (hullPoints L)) a c → OneTop (ptsOf (hullPoints L)) a c → OneTop (ptsOf (hullPoints L)) c a
       → Rot (movedRound m w h (ptsOf (quadPoints (hullPoints L)))) (ptsOf (quadPoints (hullPoints L′)))
   quad-of a c f o o′ =
@@ -184,3 +173,6 @@ module _ (m : Move) (W H : ℕ) (posW : 0 < W) (posH : 0 < H) (lessW : 16 * W �
       rw (quad-both L small, quad-both L′ small′)
       (quad-round m w h (ptsOf L) (ptsOf L′) (same-of m w h (ptsOf L) (ptsOf L′) (points-of m W H posW posH p p′ same untied i l k)) a c
       (rw e at f) (rw e at o) (rw e at o′))
+
+  pub quad-round-of : Clockwise (ptsOf (quadPoints (hullPoints L′)))
+  quad-round-of = rw (quad-both L′ small′) (quad-clockwise (hull (ptsOf L′)))

@@ -76,7 +76,7 @@ module _ (m : Move) (W H : ℕ) (posW : 0 < W) (posH : 0 < H) (p p′ : Plane)
 
   pub region-within : Within (regionBox p w h (keptLabel p w h i)) w h
   region-within =
-      let c = region-cell m W H posW posH p p′ same untied i l in
+      let c = region-cell p w h i l in
       let r = region-in p w h (keptLabel p w h i) (omega arith) (c .0) (c .1) (c .2) in
       record { across′ = omega (arith, r .0); down′ = omega (arith, r .1); wide = r .2; high = r .3 }
 

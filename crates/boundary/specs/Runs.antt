@@ -1,8 +1,10 @@
 -- Runs on a line of pixels, as document 01 has them under "Boundary points". The shortest run k is a number of the caller's; the base has
 -- 4. Definitions only. Assumes nothing.
+use mathlib.Core.Path.{_≡_}
+use mathlib.Core.Logic.{_↔_}
 use mathlib.Core.Bool.{Bool, true, false, _&&_, _||_, cond}
 use mathlib.Core.List.{List, [], _∷_}
-use Prim.Native.Nat.{ℕ, zero, suc, _+_, _*_}
+use Prim.Native.Nat.{ℕ, zero, suc, _+_, _*_, _≤_, _<_}
 use lib.Dec.{leb, ltb}
 use Rattle.laws.specs.Fold.{first, endOf}
 
@@ -33,3 +35,8 @@ runEnd k n t = endOf n (inRun k n t)
 -- Start of the first and end of the last run, doubled, of a line whose first pixel is s; nothing where there is no run.
 unfoldable pub edges : ℕ → ℕ → (ℕ → Bool) → ℕ → List ℕ
 edges k n t s = cond (ltb (runStart k n t) n) (2 * (s + runStart k n t) ∷ 2 * (s + runEnd k n t) ∷ []) []
+
+-- A line of n pixels that has one run: its member pixels are the m from pixel a on, and no others.
+pub record OneRun (n a m : ℕ) (t : ℕ → Bool) : Type 0 where
+  pub fits : a + m ≤ n
+  pub members : (i : ℕ) → i < n → (t i ≡ true) ↔ ((a ≤ i) × (i < a + m))

@@ -1,4 +1,5 @@
 -- Laws of the ring door's answer, by the number of its refusal.
+--     said-given, said-refused         what is said where a trace is given, and on a refusal
 --     attempt-number                   a trace is given where no check fails: the number is 0
 --     attempt-trace                    the trace then
 --     refused-number, refused-some     on a refusal: its number, which is not 0
@@ -10,15 +11,22 @@ use Prim.Native.Nat.{ℕ, zero, suc}
 use native.Mathlib.Omega.{arith}
 use lib.ListN.{length}
 use lib.Ieee.{Float}
-use Rattle.ring.specs.Door.{answerBy, neededOf}
-use Rattle.ring.specs.Trace.{attemptOf}
+use Rattle.laws.specs.Said.{resultOf}
+use Rattle.ring.specs.Door.{answerBy, outcomeSaid, attemptSaid, neededOf}
+use Rattle.ring.specs.Trace.{shortTrace, attemptOf}
+use Rattle.ring.specs.declared.door.Answer.{Answer}
 use Rattle.ring.specs.declared.door.Outcome.{Outcome}
 use Rattle.ring.specs.declared.door.Outcome.the-variants.{Given, Refused}
 
--- 0, or the refusal's number
+-- 0, or the refusal's number: what an answer says, whatever its trace
 numberOf : Outcome → ℕ
-numberOf Given = 0
-numberOf (Refused n) = n
+numberOf o = resultOf (outcomeSaid o (shortTrace 0))
+
+pub said-given : (a : Answer) → a .outcome ≡ Given → 0 ≡ resultOf (attemptSaid a)
+said-given a e = sym (ap (λ (o : Outcome). resultOf (outcomeSaid o (a .trace))) e)
+
+pub said-refused : (a : Answer) (k : ℕ) → a .outcome ≡ Refused k → k ≡ resultOf (attemptSaid a)
+said-refused a k e = sym (ap (λ (o : Outcome). resultOf (outcomeSaid o (a .trace))) e)
 
 isRefused : Outcome → ℕ
 isRefused Given = 0

@@ -30,7 +30,7 @@ use lcr_core::version::Version;
 
 // Cells on a side of a version's symbol, and positions round its ring.
 #[no_mangle]
-pub extern "C" fn lcr_version(version: u8, side: &mut u16, positions: &mut usize) -> u32
+pub extern "C" fn lcr_version(version: u32, side: &mut u16, positions: &mut usize) -> u32
     ensures { λ r. ⌜ r ≡ versionResult (versionAnswer version) ⌝ }
     ensures { λ _. ⌜ now (side .exit) ≡ sideAfter (versionAnswer version) (now (side .entry)) ⌝ }
     ensures { λ _. ⌜
@@ -42,7 +42,7 @@ pub extern "C" fn lcr_version(version: u8, side: &mut u16, positions: &mut usize
 
 // How far outside the symbol a cell lies.
 #[no_mangle]
-pub extern "C" fn lcr_shell(version: u8, x: i32, y: i32, depth: &mut usize) -> u32
+pub extern "C" fn lcr_shell(version: u32, x: i32, y: i32, depth: &mut usize) -> u32
     ensures { λ r. ⌜ r ≡ depthResult (shellAnswer version x y) ⌝ }
     ensures { λ _. ⌜
         now (depth .exit)
@@ -54,7 +54,7 @@ pub extern "C" fn lcr_shell(version: u8, x: i32, y: i32, depth: &mut usize) -> u
 // The edge that a cell sits on, and its coordinate along it.
 #[no_mangle]
 pub extern "C" fn lcr_edge_and_offset(
-    version: u8,
+    version: u32,
     x: i32,
     y: i32,
     edge: &mut usize,
@@ -75,7 +75,7 @@ pub extern "C" fn lcr_edge_and_offset(
 
 // The position of a cell of the ring.
 #[no_mangle]
-pub extern "C" fn lcr_position(version: u8, x: i32, y: i32, position: &mut usize) -> u32
+pub extern "C" fn lcr_position(version: u32, x: i32, y: i32, position: &mut usize) -> u32
     ensures { λ r. ⌜ r ≡ placeResult (placeAnswer version x y) ⌝ }
     ensures { λ _. ⌜
         now (position .exit)
@@ -86,7 +86,7 @@ pub extern "C" fn lcr_position(version: u8, x: i32, y: i32, position: &mut usize
 
 // The outer cell of a position.
 #[no_mangle]
-pub extern "C" fn lcr_outer_cell(version: u8, p: usize, x: &mut i32, y: &mut i32) -> u32
+pub extern "C" fn lcr_outer_cell(version: u32, p: usize, x: &mut i32, y: &mut i32) -> u32
     ensures { λ r. ⌜ r ≡ cellResult (outerAnswer version p) ⌝ }
     ensures { λ _. ⌜ now (x .exit) ≡ xAfter (outerAnswer version p) (now (x .entry)) ⌝ }
     ensures { λ _. ⌜ now (y .exit) ≡ yAfter (outerAnswer version p) (now (y .entry)) ⌝ }
@@ -96,7 +96,7 @@ pub extern "C" fn lcr_outer_cell(version: u8, p: usize, x: &mut i32, y: &mut i32
 
 // The inner cell of a position.
 #[no_mangle]
-pub extern "C" fn lcr_inner_cell(version: u8, p: usize, x: &mut i32, y: &mut i32) -> u32
+pub extern "C" fn lcr_inner_cell(version: u32, p: usize, x: &mut i32, y: &mut i32) -> u32
     ensures { λ r. ⌜ r ≡ cellResult (innerAnswer version p) ⌝ }
     ensures { λ _. ⌜ now (x .exit) ≡ xAfter (innerAnswer version p) (now (x .entry)) ⌝ }
     ensures { λ _. ⌜ now (y .exit) ≡ yAfter (innerAnswer version p) (now (y .entry)) ⌝ }
@@ -106,7 +106,7 @@ pub extern "C" fn lcr_inner_cell(version: u8, p: usize, x: &mut i32, y: &mut i32
 
 // Whether the ring is light at a position.
 #[no_mangle]
-pub extern "C" fn lcr_sequence_light(version: u8, p: usize, light: &mut bool) -> u32
+pub extern "C" fn lcr_sequence_light(version: u32, p: usize, light: &mut bool) -> u32
     ensures { λ r. ⌜ r ≡ markResult (markAnswer version p) ⌝ }
     ensures { λ _. ⌜ now (light .exit) ≡ markAfter (markAnswer version p) (now (light .entry)) ⌝ }
 {

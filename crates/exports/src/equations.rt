@@ -1,17 +1,17 @@
 // Equations and medians for C: the doors of crates `math` and `medians`. Refusals: 9, then 10.
 ghost use mathlib.Core.Path.{_≡_};
+ghost use Rattle.laws.specs.Said.{resultOf, leftOf};
 ghost use Rattle.math.specs.Equations.{solveAnswer, fitAnswer};
-ghost use Rattle.medians.specs.Median.{medianAnswer, madSigmaAnswer};
-ghost use Rattle.numbers_out.specs.Solutions.{valueAfter, ValuesAfter, givenOr, solutionResult};
+ghost use Rattle.medians.specs.Median.{medianAnswer, madSigmaAnswer, Left};
 
 // The median of values, which come into some other order.
 #[no_mangle]
 pub extern "C" fn lcr_median(values: &mut [f32], median: &mut f32) -> u32
-    ensures { λ r. ⌜ r ≡ medianAnswer (now (values .entry)) .number ⌝ }
+    ensures { λ r. ⌜ r ≡ resultOf (medianAnswer (now (values .entry))) ⌝ }
     ensures { λ _. ⌜
-        now (median .exit)
-        ≡ valueAfter (medianAnswer (now (values .entry)) .values) (now (median .entry)) ⌝ }
-    ensures { λ r. ⌜ ValuesAfter r (now (values .entry)) (now (values .exit)) ⌝ }
+        now (median .exit) ≡ leftOf (medianAnswer (now (values .entry))) (now (median .entry)) ⌝ }
+    ensures { λ _. ⌜
+        Left (medianAnswer (now (values .entry))) (now (values .entry)) (now (values .exit)) ⌝ }
 {
     numbers_out::solutions::put_number(medians::median(values), median)
 }
@@ -19,10 +19,9 @@ pub extern "C" fn lcr_median(values: &mut [f32], median: &mut f32) -> u32
 // The median distance from the median, times 1.4826.
 #[no_mangle]
 pub extern "C" fn lcr_mad_sigma(values: &[f32], sigma: &mut f32) -> u32
-    ensures { λ r. ⌜ r ≡ madSigmaAnswer (now (values .entry)) .number ⌝ }
+    ensures { λ r. ⌜ r ≡ resultOf (madSigmaAnswer (now (values .entry))) ⌝ }
     ensures { λ _. ⌜
-        now (sigma .exit)
-        ≡ valueAfter (madSigmaAnswer (now (values .entry)) .values) (now (sigma .entry)) ⌝ }
+        now (sigma .exit) ≡ leftOf (madSigmaAnswer (now (values .entry))) (now (sigma .entry)) ⌝ }
 {
     numbers_out::solutions::put_number(medians::mad_sigma(values), sigma)
 }
@@ -30,12 +29,10 @@ pub extern "C" fn lcr_mad_sigma(values: &[f32], sigma: &mut f32) -> u32
 // The solution of n equations: its n numbers, then +0.
 #[no_mangle]
 pub extern "C" fn lcr_solve(a: &[f64], b: &[f64], n: usize, x: &mut [f64; 8]) -> u32
-    ensures { λ r. ⌜
-        r ≡ solutionResult (solveAnswer n (now (a .entry)) (now (b .entry))) ⌝ }
+    ensures { λ r. ⌜ r ≡ resultOf (solveAnswer n (now (a .entry)) (now (b .entry))) ⌝ }
     ensures { λ _. ⌜
         now (x .exit)
-        ≡ givenOr (solveAnswer n (now (a .entry)) (now (b .entry)) .values)
-        (now (x .entry)) ⌝ }
+        ≡ leftOf (solveAnswer n (now (a .entry)) (now (b .entry))) (now (x .entry)) ⌝ }
 {
     numbers_out::solutions::put_solution(math::solve(a, b, n), x)
 }
@@ -49,11 +46,10 @@ pub extern "C" fn lcr_least_squares(
     x: &mut [f64; 8],
 ) -> u32
     ensures { λ r. ⌜
-        r ≡ solutionResult (fitAnswer n (now (basis .entry)) (now (targets .entry))) ⌝ }
+        r ≡ resultOf (fitAnswer n (now (basis .entry)) (now (targets .entry))) ⌝ }
     ensures { λ _. ⌜
         now (x .exit)
-        ≡ givenOr (fitAnswer n (now (basis .entry)) (now (targets .entry)) .values)
-        (now (x .entry)) ⌝ }
+        ≡ leftOf (fitAnswer n (now (basis .entry)) (now (targets .entry))) (now (x .entry)) ⌝ }
 {
     numbers_out::solutions::put_solution(math::least_squares(basis, targets, n), x)
 }

@@ -1,19 +1,17 @@
 // Outlines, hulls and quads for C: the outline door, with the refusals 1, 2, 5 and 3 in this order,
-// `convex_hull` and `quad`. Points are x and y by turns.
+// the hull's door with refusal 3, and `quad`. Points are x and y by turns.
 ghost use mathlib.Core.Path.{_≡_};
-ghost use mathlib.Core.Bool.{cond};
-ghost use lib.Dec.{ltb};
 ghost use lib.ListN.{length};
-ghost use Rattle.hull.specs.Points.{many, laid};
-ghost use Rattle.hull.specs.Hull.{hullOf, hullFloats};
-ghost use Rattle.hull.specs.Quad.{quadFloats};
-ghost use Rattle.numbers_out.specs.Solutions.{noneResult, givenOr};
+ghost use Rattle.laws.specs.Said.{resultOf, leftOf};
+ghost use Rattle.hull.specs.Door.{hulled, hulledSaid, verticesAfter};
+ghost use Rattle.hull.specs.Quad.{quadFloats, quadSaid};
 ghost use Rattle.pictures_out.specs.Answers.{
   outlineAnswer,
   outlineAfter,
   outlineResult,
   pointsAfter,
 };
+use hull::Hulled;
 use hull::points::Corners;
 
 // The boundary points of a region's box, and how many there are.
@@ -63,32 +61,32 @@ pub extern "C" fn lcr_outline(
 #[no_mangle]
 pub extern "C" fn lcr_convex_hull(points: &[f32], out: &mut [f32], vertices: &mut usize) -> u32
     ensures { λ r. ⌜
-        r
-        ≡ cond (ltb (length (now (out .entry))) (length (now (points .entry)))) 3 0 ⌝ }
+        r ≡ resultOf (hulledSaid (hulled (now (points .entry)) (length (now (out .entry))))) ⌝ }
     ensures { λ _. ⌜
         now (vertices .exit)
-        ≡ cond (ltb (length (now (out .entry))) (length (now (points .entry))))
-        (now (vertices .entry))
-        (length (hullOf (now (points .entry)) (many (now (points .entry))))) ⌝ }
+        ≡ leftOf (hulledSaid (hulled (now (points .entry)) (length (now (out .entry)))))
+        (now (vertices .entry)) ⌝ }
     ensures { λ _. ⌜
         now (out .exit)
-        ≡ cond (ltb (length (now (out .entry))) (length (now (points .entry))))
-        (now (out .entry)) (laid (hullFloats (now (points .entry))) (now (out .entry))) ⌝ }
+        ≡ verticesAfter (hulled (now (points .entry)) (length (now (out .entry))))
+        (now (points .entry)) (now (out .entry)) ⌝ }
 {
-    if out.len() < points.len() {
-        return 3;
+    match hull::convex_hull(points, out) {
+        Hulled::Vertices(n) => {
+            *vertices = n;
+            0
+        }
+        Hulled::Refused(n) => n,
     }
-    *vertices = hull::convex_hull(points, out);
-    0
 }
 
 // The quad of the vertices of a hull.
 #[no_mangle]
 pub extern "C" fn lcr_quad(vertices: &[f32], quad: &mut [f32; 8]) -> u32
-    ensures { λ r. ⌜ r ≡ noneResult (quadFloats (now (vertices .entry))) ⌝ }
+    ensures { λ r. ⌜ r ≡ resultOf (quadSaid (quadFloats (now (vertices .entry)))) ⌝ }
     ensures { λ _. ⌜
         now (quad .exit)
-        ≡ givenOr (quadFloats (now (vertices .entry))) (now (quad .entry)) ⌝ }
+        ≡ leftOf (quadSaid (quadFloats (now (vertices .entry)))) (now (quad .entry)) ⌝ }
 {
     match hull::quad(vertices) {
         Corners::Found(q) => {

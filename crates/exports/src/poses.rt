@@ -8,7 +8,7 @@ ghost use Rattle.border_out.specs.Poses.{scoreAfter, cornerAfter, reversedAfter
 
 // Light or dark at each position, from its luma.
 #[no_mangle]
-pub extern "C" fn lcr_classify(version: u8, lumas: &[f32], marks: &mut [bool]) -> u32
+pub extern "C" fn lcr_classify(version: u32, lumas: &[f32], marks: &mut [bool]) -> u32
     ensures { λ r. ⌜
         r ≡ classifyResult (classifyAnswer version (now (lumas .entry)) (now (marks .entry))) ⌝ }
     ensures { λ _. ⌜
@@ -22,7 +22,7 @@ pub extern "C" fn lcr_classify(version: u8, lumas: &[f32], marks: &mut [bool]) -
 // The best pose of a ring's marks, and the agreement counts of the eight poses.
 #[no_mangle]
 pub extern "C" fn lcr_correlate(
-    version: u8,
+    version: u32,
     marks: &[bool],
     score: &mut f32,
     corner: &mut usize,

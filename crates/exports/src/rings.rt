@@ -2,7 +2,8 @@
 ghost use mathlib.Core.Path.{_≡_};
 ghost use lib.ListN.{length};
 ghost use Rattle.laws.specs.Lent.{UntouchedPast};
-ghost use Rattle.ring.specs.Checks.{checkRing};
+ghost use Rattle.laws.specs.Said.{resultOf};
+ghost use Rattle.ring.specs.Door.{answerOf, attemptSaid};
 ghost use Rattle.ring.specs.Trace.{attemptOf};
 ghost use Rattle.pictures_out.specs.Answers.{afterBy};
 ghost use Rattle.rings_out.specs.Rings.{rowsOf, ringOf, cornersOf, isFound};
@@ -15,7 +16,7 @@ pub extern "C" fn lcr_attempt(
     width: usize,
     height: usize,
     points: &[f32],
-    most: u8,
+    most: u32,
     straight: &mut [f32],
     cand: &mut [f32],
     buf: &mut [f32],
@@ -28,9 +29,9 @@ pub extern "C" fn lcr_attempt(
     fallback: &mut [f64; 15],
 ) -> u32
     ensures number { λ r. ⌜
-        r ≡ checkRing width height (length (now (gray .entry))) (now (points .entry))
-        (length (now (straight .entry))) (length (now (cand .entry)))
-        (length (now (buf .entry))) most ⌝ }
+        r ≡ resultOf (attemptSaid (answerOf (now (gray .entry)) width height
+        (now (points .entry)) most (length (now (straight .entry)))
+        (length (now (cand .entry))) (length (now (buf .entry))))) ⌝ }
     ensures straight { λ r. ⌜ UntouchedPast (afterBy r (length (now (points .entry))) 0)
         (now (straight .entry)) (now (straight .exit)) ⌝ }
     ensures cand { λ r. ⌜ UntouchedPast (afterBy r (length (now (points .entry))) 0)

@@ -204,7 +204,7 @@ fn consensus(s: &[f32], e: Edge, buf: &mut [f32]) -> Line
 }
 
 // The line of the edge from a to b by consensus.
-pub fn edge_line(s: &[f32], a: Point, b: Point, cand: &mut [f32], buf: &mut [f32]) -> Line
+pub(crate) fn edge_line(s: &[f32], a: Point, b: Point, cand: &mut [f32], buf: &mut [f32]) -> Line
     requires { ⌜ length (now s) ≤ length (now cand) ⌝ }
     requires { ⌜ length (now s) ≤ length (now buf) ⌝ }
     requires { ⌜ length (now s) ≤ 32768 ⌝ }

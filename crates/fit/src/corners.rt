@@ -80,7 +80,7 @@ fn near_corner(c: Crossing, p: Point) -> Crossing
 }
 
 // The quad of four crossings.
-pub fn corners_of(a: Crossing, b: Crossing, c: Crossing, d: Crossing) -> Corners
+pub(crate) fn corners_of(a: Crossing, b: Crossing, c: Crossing, d: Crossing) -> Corners
     ensures { λ r. ⌜ r ≡ cornersOf a b c d ⌝ }
 {
     let Crossing::At(ax, ay) = a else {

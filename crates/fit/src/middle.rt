@@ -48,7 +48,7 @@ pub fn at_most(v: f32, tol: f32) -> bool
 }
 
 // Whether a point is within tol of the line through ox, oy along fx, fy.
-pub fn on_line(ox: f32, oy: f32, fx: f32, fy: f32, tol: f32, x: f32, y: f32) -> bool
+pub(crate) fn on_line(ox: f32, oy: f32, fx: f32, fy: f32, tol: f32, x: f32, y: f32) -> bool
     ensures { λ r. ⌜ r ≡ le (offOf ox oy fx fy x y) tol ⌝ }
 {
     at_most((x - ox) * fy - (y - oy) * fx, tol)

@@ -19,7 +19,7 @@ fn begin(out: &mut [u32], from: usize) {
 }
 
 // An answer of some numbers, after a word 1 where they might be none.
-pub fn put(out: &mut [u32], from: usize, x: &[f32]) -> usize
+pub(crate) fn put(out: &mut [u32], from: usize, x: &[f32]) -> usize
     requires { ⌜ from ≤ 2 ⌝ }
     requires { ⌜ 1 ≤ from ⌝ }
     requires { ⌜ length (now x) ≤ 8192 ⌝ }
@@ -32,7 +32,7 @@ pub fn put(out: &mut [u32], from: usize, x: &[f32]) -> usize
     from + x.len()
 }
 
-pub fn lines(l: Line, out: &mut [u32], from: usize) -> usize
+pub(crate) fn lines(l: Line, out: &mut [u32], from: usize) -> usize
     requires { ⌜ from ≤ 2 ⌝ }
     requires { ⌜ 1 ≤ from ⌝ }
 {
@@ -43,7 +43,7 @@ pub fn lines(l: Line, out: &mut [u32], from: usize) -> usize
     put(out, from, &n)
 }
 
-pub fn crossing(c: Crossing, out: &mut [u32]) -> usize {
+pub(crate) fn crossing(c: Crossing, out: &mut [u32]) -> usize {
     let Crossing::At(x, y) = c else {
         return words::two(out, 0, 0);
     };
@@ -51,7 +51,7 @@ pub fn crossing(c: Crossing, out: &mut [u32]) -> usize {
     put(out, 2, &n)
 }
 
-pub fn bow(b: Bow, out: &mut [u32]) -> usize {
+pub(crate) fn bow(b: Bow, out: &mut [u32]) -> usize {
     let Bow::Fit(c0, c1, c2, err) = b else {
         return words::two(out, 0, 0);
     };
@@ -59,14 +59,14 @@ pub fn bow(b: Bow, out: &mut [u32]) -> usize {
     put(out, 2, &n)
 }
 
-pub fn found(c: Corners, out: &mut [u32]) -> usize {
+pub(crate) fn found(c: Corners, out: &mut [u32]) -> usize {
     let Corners::Found(q) = c else {
         return words::two(out, 0, 0);
     };
     corners(q, out, 2)
 }
 
-pub fn corners(q: Quad, out: &mut [u32], from: usize) -> usize
+pub(crate) fn corners(q: Quad, out: &mut [u32], from: usize) -> usize
     requires { ⌜ from ≤ 2 ⌝ }
     requires { ⌜ 1 ≤ from ⌝ }
 {

@@ -5,6 +5,7 @@ use mathlib.Core.List.{List, [], _∷_, map}
 use Prim.Native.Nat.{ℕ}
 use lib.ListN.{length, getD}
 use lib.Ieee.{Float, binary32, ofBits, add, sub, mul, lt, le}
+use Rattle.laws.specs.Said.{Said, none, give}
 use Rattle.whole.specs.Wrap.{Ops, iquad}
 use Rattle.hull.specs.Points.{0f, many, xAt, yAt, pointsAt, floatsOf}
 use Rattle.hull.specs.Hull.{crossAt, d2At}
@@ -44,3 +45,8 @@ quadPoints L = map (λ i. getD L i (0, 0)) (quadOf (floatsOf L) (length L))
 unfoldable pub valuesOf : Corners → List Float
 valuesOf (Found q) = q .a .x ∷ q .a .y ∷ q .b .x ∷ q .b .y ∷ q .c .x ∷ q .c .y ∷ q .d .x ∷ q .d .y ∷ []
 valuesOf NoQuad = []
+
+-- What a quad says, by the numbers of its corners: these, or none.
+abbrev pub quadSaid : List Float → Said (List Float)
+quadSaid [] = none
+quadSaid (x ∷ xs) = give (x ∷ xs)

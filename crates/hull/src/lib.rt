@@ -1,42 +1,32 @@
 // The convex hull of a list of f32 points, x and y alternating, and the quad of a hull: any list,
 // NaN and -0 included.
 ghost use mathlib.Core.Path.{_≡_};
-ghost use Prim.Native.Nat.{_*_, _≤_};
 ghost use lib.ListN.{length};
-ghost use Rattle.hull.specs.Points.{many, laid};
-ghost use Rattle.hull.specs.Hull.{hullOf, hullFloats};
+ghost use Rattle.hull.specs.Door.{hulled, verticesAfter};
 ghost use Rattle.hull.specs.Quad.{quadFloats, valuesOf};
 use crate::points::Corners;
 
 pub mod claims;
 pub mod points;
 mod sides;
-mod walk;
+pub mod walk;
 
-// Stores the vertices of the hull in out, and returns how many there are. The places past them stay
-// as they are.
-pub fn convex_hull(p: &[f32], out: &mut [f32]) -> usize
-    requires { ⌜ 2 * many (now p) ≤ length (now out) ⌝ }
-    ensures { λ r. ⌜ r ≡ length (hullOf (now (p .entry)) (many (now (p .entry)))) ⌝ }
-    ensures { λ _. ⌜ now (out .exit) ≡ laid (hullFloats (now (p .entry))) (now (out .entry)) ⌝ }
+// How many vertices the lent list holds, or the number of a refusal.
+pub enum Hulled {
+    Vertices(usize),
+    Refused(u32),
+}
+
+// Stores the vertices of the hull in out and tells how many there are; the places past them stay as
+// they are. 3 where out has fewer numbers than p, and nothing is touched.
+pub fn convex_hull(p: &[f32], out: &mut [f32]) -> Hulled
+    ensures { λ r. ⌜ r ≡ hulled (now (p .entry)) (length (now (out .entry))) ⌝ }
+    ensures { λ r. ⌜ now (out .exit) ≡ verticesAfter r (now (p .entry)) (now (out .entry)) ⌝ }
 {
-    let n = p.len() / 2;
-    if n == 0 {
-        return 0;
+    if out.len() < p.len() {
+        return Hulled::Refused(3);
     }
-    let start = walk::start_of(p);
-    let mut cur = start;
-    let mut k = 0;
-    while k < n {
-        out[2 * k] = points::x_at(p, cur);
-        out[2 * k + 1] = points::y_at(p, cur);
-        k += 1;
-        cur = walk::next_of(p, cur);
-        if walk::same_at(p, cur, start) {
-            return k;
-        }
-    }
-    k
+    Hulled::Vertices(walk::convex_hull(p, out))
 }
 
 // The quad of the vertices of a hull: the farthest pair, and the farthest point on either side of

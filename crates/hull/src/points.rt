@@ -27,14 +27,14 @@ pub enum Corners {
 }
 
 // The coordinates of point i.
-pub fn x_at(p: &[f32], i: usize) -> f32
+pub(crate) fn x_at(p: &[f32], i: usize) -> f32
     requires { ⌜ i < many (now p) ⌝ }
     ensures { λ r. ⌜ r ≡ xAt (now (p .entry)) i ⌝ }
 {
     p[2 * i]
 }
 
-pub fn y_at(p: &[f32], i: usize) -> f32
+pub(crate) fn y_at(p: &[f32], i: usize) -> f32
     requires { ⌜ i < many (now p) ⌝ }
     ensures { λ r. ⌜ r ≡ yAt (now (p .entry)) i ⌝ }
 {
@@ -42,7 +42,7 @@ pub fn y_at(p: &[f32], i: usize) -> f32
 }
 
 // The turn from point o over a to b.
-pub fn cross_at(p: &[f32], o: usize, a: usize, b: usize) -> f32
+pub(crate) fn cross_at(p: &[f32], o: usize, a: usize, b: usize) -> f32
     requires { ⌜ (o < many (now p)) × (a < many (now p)) × (b < many (now p)) ⌝ }
     ensures { λ r. ⌜ r ≡ crossAt (now (p .entry)) o a b ⌝ }
 {
@@ -52,7 +52,7 @@ pub fn cross_at(p: &[f32], o: usize, a: usize, b: usize) -> f32
 }
 
 // The squared distance of points a and b.
-pub fn d2_at(p: &[f32], a: usize, b: usize) -> f32
+pub(crate) fn d2_at(p: &[f32], a: usize, b: usize) -> f32
     requires { ⌜ (a < many (now p)) × (b < many (now p)) ⌝ }
     ensures { λ r. ⌜ r ≡ d2At (now (p .entry)) a b ⌝ }
 {
@@ -73,7 +73,7 @@ fn point_at(p: &[f32], i: usize) -> Point
 }
 
 // The quad of points a, b, c and d.
-pub fn corners_at(p: &[f32], a: usize, b: usize, c: usize, d: usize) -> Corners
+pub(crate) fn corners_at(p: &[f32], a: usize, b: usize, c: usize, d: usize) -> Corners
     requires { ⌜
         (a < many (now p))
         × (b < many (now p))

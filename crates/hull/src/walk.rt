@@ -1,14 +1,16 @@
-// The walk round a hull: its first point, and the next one.
+// The walk round a hull: its first point, the next one, and all of them.
 use crate::points::cross_at;
 use crate::points::d2_at;
 use crate::points::x_at;
 use crate::points::y_at;
 ghost use mathlib.Core.Path.{_≡_};
 ghost use mathlib.Core.Bool.{cond};
-ghost use Prim.Native.Nat.{_<_};
+ghost use Prim.Native.Nat.{_*_, _≤_, _<_};
+ghost use lib.ListN.{length};
 ghost use Rattle.whole.specs.Wrap.{nxt};
-ghost use Rattle.hull.specs.Points.{many, xAt, yAt};
+ghost use Rattle.hull.specs.Points.{many, xAt, yAt, laid};
 ghost use Rattle.hull.specs.Hull.{betterAt, lowerAt, sameAt, hullTests};
+ghost use Rattle.hull.specs.Hull.{hullOf, hullFloats};
 ghost use Rattle.hull.specs.Steps.{startOf};
 
 // Whether i is to replace n, as seen from c.
@@ -40,7 +42,7 @@ fn taken(p: &[f32], cur: usize, next: usize, i: usize) -> usize
 }
 
 // The vertex after cur.
-pub fn next_of(p: &[f32], cur: usize) -> usize
+fn next_of(p: &[f32], cur: usize) -> usize
     requires { ⌜ cur < many (now p) ⌝ }
     ensures { λ r. ⌜
         (r ≡ nxt (hullTests (now (p .entry))) (many (now (p .entry))) cur)
@@ -86,7 +88,7 @@ fn first_of(p: &[f32], best: usize, i: usize) -> usize
 }
 
 // The first vertex.
-pub fn start_of(p: &[f32]) -> usize
+fn start_of(p: &[f32]) -> usize
     requires { ⌜ 0 < many (now p) ⌝ }
     ensures { λ r. ⌜ (r ≡ startOf (now (p .entry))) × (r < many (now (p .entry))) ⌝ }
 {
@@ -101,7 +103,7 @@ pub fn start_of(p: &[f32]) -> usize
 }
 
 // Whether two points have equal coordinates.
-pub fn same_at(p: &[f32], i: usize, j: usize) -> bool
+fn same_at(p: &[f32], i: usize, j: usize) -> bool
     requires { ⌜ (i < many (now p)) × (j < many (now p)) ⌝ }
     ensures { λ r. ⌜ r ≡ sameAt (now (p .entry)) i j ⌝ }
 {
@@ -109,4 +111,30 @@ pub fn same_at(p: &[f32], i: usize, j: usize) -> bool
         return y_at(p, i) == y_at(p, j);
     }
     false
+}
+
+// Stores the vertices of the hull in out, and returns how many there are. The places past them stay
+// as they are.
+pub fn convex_hull(p: &[f32], out: &mut [f32]) -> usize
+    requires { ⌜ 2 * many (now p) ≤ length (now out) ⌝ }
+    ensures { λ r. ⌜ r ≡ length (hullOf (now (p .entry)) (many (now (p .entry)))) ⌝ }
+    ensures { λ _. ⌜ now (out .exit) ≡ laid (hullFloats (now (p .entry))) (now (out .entry)) ⌝ }
+{
+    let n = p.len() / 2;
+    if n == 0 {
+        return 0;
+    }
+    let start = start_of(p);
+    let mut cur = start;
+    let mut k = 0;
+    while k < n {
+        out[2 * k] = x_at(p, cur);
+        out[2 * k + 1] = y_at(p, cur);
+        k += 1;
+        cur = next_of(p, cur);
+        if same_at(p, cur, start) {
+            return k;
+        }
+    }
+    k
 }

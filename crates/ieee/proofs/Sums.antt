@@ -18,7 +18,7 @@ use lib.Dec.{T, ltb, ltb→lt, lt→ltb, nltb→le, lit<}
 use lib.Arith.{le→nltb}
 use lib.Pow.{pow-add, pow-pos, pow-mono, pow-lt, shl-lt}
 use lib.Ieee.{Float, nan, inf, fin, Format, binary32, binary64, prec, emax, low, up, down, unlike, round, sum, neg, add, sub, mul}
-use lib.Ieee.Fits.{down-pos, reach}
+use lib.Ieee.Fits.{down-pos, reach, two}
 use lib.Ieee.Bits.{is-true, is-false}
 use lib.Ieee.Exact.{HasValue, round-exact}
 use lib.Ieee.Scale.{round-same}
@@ -44,9 +44,8 @@ exact f s n j h k = go (eq-or-lt-of-le h)
     widen : (p e j l : ℕ) → j ≤ l → p < suc e → p + (l - j) < l + suc e
     widen p e j l k h = omega arith
 
-    one-lt : (f : Format) → 1 < 2 ^ prec f
-    one-lt binary32 = lit< tt
-    one-lt binary64 = lit< tt
+    digits : 0 < prec f
+    digits = omega (arith, two f)
 
     go : (n ≡ 2 ^ prec f) ⊎ (n < 2 ^ prec f) → HasValue (round f s n (2 ^ j)) s n (2 ^ j)
     go (inr l) =
@@ -56,7 +55,7 @@ exact f s n j h k = go (eq-or-lt-of-le h)
         ∙ sym (mul-assoc n (2 ^ (low f - j)) (2 ^ j)))
     go (inl e) =
         subst (λ (n : ℕ). HasValue (round f s n (2 ^ j)) s n (2 ^ j)) (sym e)
-        (round-exact f s (2 ^ prec f) (2 ^ j) 1 (prec f + (low f - j)) (pow-pos j) (one-lt f)
+        (round-exact f s (2 ^ prec f) (2 ^ j) 1 (prec f + (low f - j)) (pow-pos j) (pow-lt {i = 0} digits)
         (subst (λ (z : ℕ). z < 2 ^ (low f + suc (emax f))) (sym (one-mul (2 ^ (prec f + (low f - j)))))
         (pow-lt (widen (prec f) (emax f) j (low f) k (room-lt f))))
         (sym (ap (λ (z : ℕ). z * 2 ^ j) (one-mul (2 ^ (prec f + (low f - j)))) ∙ sym (pow-add 2 (prec f + (low f - j)) j)

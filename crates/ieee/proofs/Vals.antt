@@ -8,7 +8,7 @@ use mathlib.Core.Path.{_≡_, refl, sym, ap, _∙_, subst}
 use Prim.Native.Nat.{ℕ, zero, suc, _+_, _*_, _^_, _≤_, _<_}
 use native.Mathlib.Nat.{mul-assoc, mul-right-comm, zero-mul, zero-add, mul-pos, eq-of-mul-eq-mul-right, zero-lt-suc, pow-suc}
 use native.Mathlib.Omega.{arith}
-use mathlib.Core.Bool.{Bool, true, false, _&&_, _||_, Bool·beq}
+use mathlib.Core.Bool.{Bool, true, false, _&&_, _||_, Bool·beq, and-true, and-false, and-self}
 use native.Mathlib.Decide.{ℕ-discrete}
 use borrow.Author.Tests.{eq-eqb, ne-eqb}
 use lib.IntN.{ℤ, pos, _*ℤ_}
@@ -92,18 +92,6 @@ lt-val {x} {y} {j} {a} {b} v w =
     ∙ below-z (v .minus) (w .minus) (v .size) (w .size)
     ∙ ap (λ (z : ℤ). ltZ z (signed (w .minus) (w .size))) (v .is)
     ∙ ap (λ (z : ℤ). ltZ a z) (w .is)
-
-and-true : (a : Bool) → (a && true) ≡ a
-and-true true = refl
-and-true false = refl
-
-and-false : (a : Bool) → (a && false) ≡ false
-and-false true = refl
-and-false false = refl
-
-and-self : (a : Bool) → (a && a) ≡ a
-and-self true = refl
-and-self false = refl
 
 -- equal numerators are equal over any common denominator
 eqb-same : (A B D a b c : ℕ) → 0 < D → 0 < c → A * c ≡ a * D → B * c ≡ b * D → eqb A B ≡ eqb a b

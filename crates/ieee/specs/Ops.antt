@@ -2,6 +2,7 @@
 use Prim.Native.Nat.{zero, suc}
 use mathlib.Core.Bool.{Bool, true, false, not, _&&_, cond}
 use lib.Ieee.{Float, nan, inf, fin, lt, isNan}
+use lib.Ieee.Scale as library
 
 unfoldable pub abs : Float → Float
 abs nan = nan
@@ -14,10 +15,9 @@ sign nan = false
 sign (inf s) = s
 sign (fin s m e) = s
 
+-- neither a NaN nor an infinity
 unfoldable pub finite : Float → Bool
-finite nan = false
-finite (inf s) = false
-finite (fin s m e) = true
+finite x = library.finite x
 
 -- the larger; of a NaN and a number the number; of the two zeros +0
 unfoldable pub max : Float → Float → Float

@@ -1,6 +1,6 @@
 -- Laws of the least number that meets a test and of counts.
 --     least-..                       where the least is, and that none is before it
---     count-yes, count-no, count-step   one number more
+--     count-yes, count-no, count-step, count-every   one number more; every number
 --     count-ext, count-mono, count-le, count-lt, count-add, count-none   counts of two tests
 --     count-into                     a map that takes no two to one shows that these are no more
 -- Assumes nothing.
@@ -197,3 +197,9 @@ count-some p (suc k) l = go (which (p k)) (count-some p k)
     go : (p k ≡ true) ⊎ (p k ≡ false) → (0 < count p k → (c : ℕ) × (c < k) × (p c ≡ true)) → (c : ℕ) × (c < suc k) × (p c ≡ true)
     go (inl e) ih = (k, omega arith, e)
     go (inr e) ih = let r = ih (omega (arith, count-no p k e, l)) in (r .0, omega (arith, r .1), r .2)
+
+-- every number is counted
+pub count-every : (n : ℕ) → count (λ _. true) n ≡ n
+unfolding count
+count-every zero = refl
+count-every (suc n) = omega (arith, count-yes (λ _. true) n refl, count-every n)

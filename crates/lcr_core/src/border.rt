@@ -54,7 +54,7 @@ fn row_start(v: usize) -> usize
 }
 
 // Whether the ring is light at a position, reduced modulo the positions.
-pub fn sequence_light(version: Version, position: usize) -> bool
+pub(crate) fn sequence_light(version: Version, position: usize) -> bool
     requires { ⌜ IsVersion (version .0) ⌝ }
     ensures { λ r. ⌜ r ≡ mark (version .0) position ⌝ }
 {
@@ -104,7 +104,7 @@ pub fn sequence(version: Version, out: &mut [bool])
 }
 
 // How far outside the symbol a cell lies.
-pub fn shell(x: i32, y: i32, version: Version) -> usize
+pub(crate) fn shell(x: i32, y: i32, version: Version) -> usize
     requires { ⌜ InRange x ⌝ }
     requires { ⌜ InRange y ⌝ }
     ensures { λ r. ⌜ r ≡ shellOf (sideOf (version .0)) x y ⌝ }
@@ -119,7 +119,7 @@ pub fn shell(x: i32, y: i32, version: Version) -> usize
 }
 
 // Which edge a cell sits on, and its coordinate along it.
-pub fn edge_and_offset(x: i32, y: i32, version: Version) -> EdgeOffset
+pub(crate) fn edge_and_offset(x: i32, y: i32, version: Version) -> EdgeOffset
     requires { ⌜ InRange x ⌝ }
     requires { ⌜ InRange y ⌝ }
     ensures { λ r. ⌜ r .edge ≡ edgeOf (sideOf (version .0)) x y ⌝ }

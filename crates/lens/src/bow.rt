@@ -198,7 +198,7 @@ pub fn bow_fit(s: &[f32], prev: Bow) -> Bow
 }
 
 // The bow in two fits: of all samples, then of those near the first.
-pub fn two_fits(s: &[f32]) -> Bow
+pub(crate) fn two_fits(s: &[f32]) -> Bow
     requires { ⌜ length (now s) ≤ 32768 ⌝ }
     ensures { λ r. ⌜ r ≡ twoFits (now (s .entry)) ⌝ }
 {

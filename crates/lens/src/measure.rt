@@ -104,7 +104,7 @@ fn bent(e: Edge, d: Side, bow: Bow) -> Measure
 }
 
 // What the edge from a to b tells of a lens about m.
-pub fn measure_edge(s: &[f32], a: Point, b: Point, m: Point, buf: &mut [f32]) -> Measure
+pub(crate) fn measure_edge(s: &[f32], a: Point, b: Point, m: Point, buf: &mut [f32]) -> Measure
     requires { ⌜ length (now s) ≤ length (now buf) ⌝ }
     requires { ⌜ length (now s) ≤ 32768 ⌝ }
     ensures { λ r. ⌜ r ≡ measureOf (now (s .entry)) a b m ⌝ }

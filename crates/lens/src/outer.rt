@@ -22,7 +22,7 @@ pub fn outer_of(s: &[f32], out: &mut [f32]) -> Outer
     ensures { λ r. ⌜ UntouchedPast (length (now (s .entry)))
         (now (out .entry)) (now (out .exit)) ⌝ }
 {
-    let h = hull::convex_hull(s, out);
+    let h = hull::walk::convex_hull(s, out);
     let q = hull::quad(&out[..2 * h]);
     Outer { hull: h, quad: q }
 }

@@ -157,7 +157,7 @@ pub fn cells_of(n: usize) -> usize
 }
 
 // The dark and light levels of every cell.
-pub fn level_cells(s: &[u8], w: usize, h: usize, darks: &mut [u32], lights: &mut [u32])
+pub(crate) fn level_cells(s: &[u8], w: usize, h: usize, darks: &mut [u32], lights: &mut [u32])
     requires { ⌜ Picture (now s) w h ⌝ }
     requires { ⌜
         (cells w * cells h ≤ length (now darks))

@@ -123,7 +123,7 @@ fn narrow(src: &[u32], dst: &mut [u8], n: usize)
 }
 
 // Eight fill passes over a grid, each into the working grid and back.
-pub fn fill_passes(grid: &mut [u8], work: &mut [u32], w: usize, h: usize)
+pub(crate) fn fill_passes(grid: &mut [u8], work: &mut [u32], w: usize, h: usize)
     requires { ⌜ Grid (now grid) w h ⌝ }
     requires { ⌜ Grid (now work) w h ⌝ }
     ensures { λ _. ⌜

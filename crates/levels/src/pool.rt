@@ -185,7 +185,7 @@ fn thresholds(darks: &[u32], lights: &[u32], grid: &mut [u8], n: usize)
 }
 
 // The thresholds before filling. It writes over the two grids of levels.
-pub fn sharp(darks: &mut [u32], lights: &mut [u32], grid: &mut [u8], w: usize, h: usize)
+pub(crate) fn sharp(darks: &mut [u32], lights: &mut [u32], grid: &mut [u8], w: usize, h: usize)
     requires { ⌜ Grid (now darks) w h ⌝ }
     requires { ⌜ Grid (now lights) w h ⌝ }
     requires { ⌜ Grid (now grid) w h ⌝ }

@@ -14,7 +14,8 @@ use Rattle.whole.specs.Wrap.{Ops, keep, fars, ends, iquad}
 use Rattle.hull.specs.Points.{numbersOf, floatsOf, Small}
 use Rattle.hull.specs.Hull.{hullOf, hullPoints}
 use Rattle.hull.specs.Quad.{quadOps, quadOf, quadPoints}
-use Rattle.listing.specs.Text.{lineOf, outlineWord, quadWord, noneWord}
+use Rattle.text.specs.Text.{lineOf, quadWord, noneWord}
+use Rattle.listing.specs.Listing.{outlineWord}
 use Rattle.listing.specs.Listing.{quadLine, outlineLines}
 use Rattle.listing.specs.Put.{Short}
 use Rattle.listing.proofs.Numbers.{line-short}

@@ -1,4 +1,3 @@
-pub mod Stores
 pub mod Numbers
 pub mod Outlines
 pub mod Pieces
@@ -6,3 +5,4 @@ pub mod Lengths
 pub mod Records
 pub mod Pictures
 pub mod Texts
+pub mod Readings

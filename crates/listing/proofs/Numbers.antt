@@ -1,4 +1,4 @@
--- Numbers below 1,000 in decimal: decimal-one, decimal-two, decimal-three, decimal-short. Numbers with spaces: spaced-append,
+-- Numbers below 1,000 in decimal: decimal-short. Numbers with spaces: spaced-append,
 -- spaced-none, spaced-more,
 -- spaced-short. Lines: line-short. Assumes nothing.
 use mathlib.Core.Path.{_≡_, refl, sym, ap, ap₂, _∙_, subst}
@@ -13,49 +13,12 @@ use lib.ListN.{length, getD, take, length-append}
 use lib.Seq.{take-suc}
 use borrow.Author.Tests.{lt-ltb, le-ltb}
 use Rattle.laws.proofs.Bools.{le-or-lt}
-use Rattle.listing.specs.Text.{spelt, decimal, spaced, lineOf}
+use Rattle.text.specs.Text.{decimal, spaced, lineOf}
+use Rattle.text.proofs.Decimals.{decimal-tens}
 use Rattle.listing.specs.Put.{Short}
 
--- ---- digits
-spelt-one : (m n : ℕ) → n < 10 → spelt (suc m) n ≡ (48 + n) ∷ []
-unfolding spelt
-spelt-one m n l = rw (lt-ltb n 10 l)
-
-spelt-more : (m n : ℕ) → 10 ≤ n → spelt (suc m) n ≡ spelt m (n / 10) ++ ((48 + n % 10) ∷ [])
-unfolding spelt
-spelt-more m n l = rw (le-ltb n 10 l)
-
-pub decimal-one : (n : ℕ) → n < 10 → decimal n ≡ (48 + n) ∷ []
-unfolding decimal
-decimal-one n l = spelt-one n n l
-
-pub decimal-two : (n : ℕ) → 10 ≤ n → n < 100 → decimal n ≡ (48 + n / 10) ∷ (48 + n % 10) ∷ []
-unfolding decimal
-decimal-two n lo hi =
-    let z : n ≡ suc (n - 1) = omega arith in
-    spelt-more n n lo
-    ∙ ap (λ (m : ℕ). spelt m (n / 10) ++ ((48 + n % 10) ∷ [])) z
-    ∙ ap (λ (l : List ℕ). l ++ ((48 + n % 10) ∷ [])) (spelt-one (n - 1) (n / 10) (omega arith))
-
-pub decimal-three : (n : ℕ) → 100 ≤ n → n < 1000 → decimal n ≡ (48 + n / 100) ∷ (48 + n / 10 % 10) ∷ (48 + n % 10) ∷ []
-unfolding decimal
-decimal-three n lo hi =
-    let z : n ≡ suc (suc (n - 2)) = omega arith in
-    let d : n / 10 / 10 ≡ n / 100 = omega arith in
-    spelt-more n n (omega arith)
-    ∙ ap (λ (m : ℕ). spelt m (n / 10) ++ ((48 + n % 10) ∷ [])) z
-    ∙ ap (λ (l : List ℕ). l ++ ((48 + n % 10) ∷ [])) (
-    spelt-more (suc (n - 2)) (n / 10) (omega arith)
-    ∙ ap (λ (l : List ℕ). l ++ ((48 + n / 10 % 10) ∷ [])) (spelt-one (n - 2) (n / 10 / 10) (omega arith)))
-    ∙ ap (λ (k : ℕ). (48 + k) ∷ (48 + n / 10 % 10) ∷ (48 + n % 10) ∷ []) d
-
 pub decimal-short : (n : ℕ) → n < 1000 → length (decimal n) ≤ 3
-decimal-short n l = go (le-or-lt 10 n) (le-or-lt 100 n)
-  where
-    go : (10 ≤ n) ⊎ (n < 10) → (100 ≤ n) ⊎ (n < 100) → length (decimal n) ≤ 3
-    go (inr a) b = rw (decimal-one n a) (omega arith)
-    go (inl a) (inr b) = rw (decimal-two n a b) (omega arith)
-    go (inl a) (inl b) = rw (decimal-three n b l) (omega arith)
+decimal-short n l = decimal-tens 2 n l
 
 -- ---- numbers with a space before each
 pub spaced-append : (a b : List ℕ) → spaced (a ++ b) ≡ spaced a ++ spaced b

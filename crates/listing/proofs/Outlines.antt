@@ -17,7 +17,8 @@ use Rattle.hull.specs.Hull.{hullTests, hullOf, hullFloats, hullPoints}
 use Rattle.hull.specs.Quad.{quadOf, quadFloats, quadPoints}
 use Rattle.hull.proofs.Exact.{half-val, at, small-at}
 use Rattle.outline.proofs.Writes.{length-floats}
-use Rattle.listing.specs.Text.{lineOf, outlineWord, quadWord, noneWord}
+use Rattle.text.specs.Text.{lineOf, quadWord, noneWord}
+use Rattle.listing.specs.Listing.{outlineWord}
 use Rattle.listing.specs.Listing.{quadLine, outlineLines}
 use Rattle.listing.specs.Put.{Short, doubledOf, cornersLine, Near, Outlined, linesBy}
 use Rattle.listing.proofs.Numbers.{line-short}

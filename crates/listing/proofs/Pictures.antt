@@ -35,7 +35,8 @@ use Rattle.outline.specs.declared.Answer.{Answer}
 use Rattle.outline.specs.declared.Answer.the-variants.{Points, Refused}
 use Rattle.outline.proofs.Writes.{length-floats}
 use Rattle.outline.proofs.Doors.{points-le}
-use Rattle.listing.specs.Text.{lineOf, regionWord}
+use Rattle.text.specs.Text.{lineOf}
+use Rattle.listing.specs.Listing.{regionWord}
 use Rattle.listing.specs.Listing.{outlineLines, regionPoints, regionLines}
 use Rattle.laws.specs.Lent.{Stored}
 use Rattle.listing.specs.Put.{Outlined, linesBy}

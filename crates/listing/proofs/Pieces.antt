@@ -16,7 +16,8 @@ use Rattle.hull.specs.Quad.{quadOf, quadFloats, valuesOf}
 use Rattle.hull.specs.declared.points.Quad.{Quad}
 use Rattle.hull.specs.declared.points.Corners.{Corners}
 use Rattle.hull.specs.declared.points.Corners.the-variants.{Found, NoQuad}
-use Rattle.listing.specs.Text.{spaced, lineOf, outlineWord, quadWord, noneWord}
+use Rattle.text.specs.Text.{spaced, lineOf, quadWord, noneWord}
+use Rattle.listing.specs.Listing.{outlineWord}
 use Rattle.laws.specs.Lent.{Stored}
 use Rattle.listing.specs.Put.{Short, Near, doubledOf, cornersLine, linesBy}
 use Rattle.listing.specs.Inner.{TrayRegion}

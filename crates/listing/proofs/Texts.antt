@@ -19,7 +19,8 @@ use Rattle.regions.specs.declared.answer.Kept.{Kept}
 use Rattle.regions.specs.declared.answer.PictureAnswer.{PictureAnswer}
 use Rattle.laws.specs.Fold.{joined}
 use Rattle.laws.proofs.Joined.{joined-more}
-use Rattle.listing.specs.Text.{lineOf, refusedWord, regionsWord}
+use Rattle.text.specs.Text.{lineOf, refusedWord}
+use Rattle.listing.specs.Listing.{regionsWord}
 use Rattle.listing.specs.Listing.{pairAt, fourAt, widthOf, heightOf, pixelsOf, isTraySide, checkRecord, regionLines, firstLines}
 use Rattle.listing.specs.Listing.{pictureText, textBy, textOf, filled}
 use Rattle.laws.specs.Lent.{Stored}

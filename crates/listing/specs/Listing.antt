@@ -1,6 +1,6 @@
 -- The tray list of a record, as document 01 has it under "traylist": the refusal of a bad record, or the listing of a picture over the
 -- definitions of the picture door, the outline door, hull and quad. Definitions only. Assumes nothing.
-use mathlib.Core.Bool.{Bool, _&&_}
+use mathlib.Core.Bool.{Bool, _&&_, cond}
 use mathlib.Core.List.{List, [], _∷_, _++_}
 use Prim.Native.Nat.{ℕ, zero, suc, _+_, _*_}
 use lib.Dec.{leb, eqb}
@@ -15,7 +15,7 @@ use Rattle.hull.specs.Quad.{quadPoints}
 use Rattle.boundary.specs.Boundary.{isMember, boundary}
 use Rattle.laws.specs.Fold.{joined}
 use Rattle.outline.specs.Door.{boxAt}
-use Rattle.listing.specs.Text.{lineOf, refusedWord, regionsWord, regionWord, outlineWord, quadWord, noneWord}
+use Rattle.text.specs.Text.{lineOf, refusedWord, quadWord, noneWord}
 
 -- ---- the record: four-byte length of the rest, two-byte kind, two-byte width and height, pixels; lowest byte first
 -- The numbers of two and of four bytes from place i on.
@@ -38,21 +38,39 @@ pixelsOf s = take (widthOf s * heightOf s) (drop 10 s)
 abbrev pub isTraySide : ℕ → Bool
 isTraySide n = leb 1 n && leb n 160
 
--- 13: record short, length not 6 + width × height, kind not 1, a side outside 1..160. 0: no refusal. First what follows the head, of n
--- pixels.
-abbrev pub checkPixels : List ℕ → ℕ → ℕ
-checkPixels s n =
-    orRefuse (eqb (fourAt s 0) (6 + n)) 13
-    (orRefuse (leb (10 + n) (length s)) 13
-    0)
-
+-- 13: record short, length not 6 + width × height, kind not 1, a side outside 1..160. 0: no refusal.
 abbrev pub checkRecord : List ℕ → ℕ
 checkRecord s =
     orRefuse (leb 10 (length s)) 13
     (orRefuse (eqb (pairAt s 4) 1) 13
     (orRefuse (isTraySide (widthOf s)) 13
     (orRefuse (isTraySide (heightOf s)) 13
-    (checkPixels s (widthOf s * heightOf s)))))
+    (orRefuse (eqb (fourAt s 0) (6 + widthOf s * heightOf s)) 13
+    (orRefuse (leb (10 + widthOf s * heightOf s) (length s)) 13
+    0)))))
+
+-- The ten bytes of a head pass all checks but that the pixels are there.
+abbrev pub isHead : List ℕ → Bool
+isHead s =
+    leb 10 (length s)
+    && (eqb (pairAt s 4) 1 && (isTraySide (widthOf s) && (isTraySide (heightOf s) && eqb (fourAt s 0) (6 + widthOf s * heightOf s))))
+
+-- How many bytes of pixels a head asks for; one that is refused asks for none.
+abbrev pub asked : List ℕ → ℕ
+asked head = cond (isHead head) (widthOf head * heightOf head) 0
+
+-- ---- the words
+-- regions
+abbrev pub regionsWord : List ℕ
+regionsWord = 114 ∷ 101 ∷ 103 ∷ 105 ∷ 111 ∷ 110 ∷ 115 ∷ []
+
+-- region
+abbrev pub regionWord : List ℕ
+regionWord = 114 ∷ 101 ∷ 103 ∷ 105 ∷ 111 ∷ 110 ∷ []
+
+-- outline
+abbrev pub outlineWord : List ℕ
+outlineWord = 111 ∷ 117 ∷ 116 ∷ 108 ∷ 105 ∷ 110 ∷ 101 ∷ []
 
 -- ---- the listing
 -- The corners doubled, or none.

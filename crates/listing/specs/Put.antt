@@ -6,7 +6,8 @@ use lib.Ieee.{Float, binary32, ofBits, mul, toUnsigned}
 use Rattle.hull.specs.Points.{0f, many}
 use Rattle.hull.specs.Hull.{hullOf, hullFloats}
 use Rattle.hull.specs.Quad.{quadFloats}
-use Rattle.listing.specs.Text.{lineOf, outlineWord, quadWord, noneWord}
+use Rattle.text.specs.Text.{lineOf, quadWord, noneWord}
+use Rattle.listing.specs.Listing.{outlineWord}
 
 -- Every number of a list is below 1,000.
 abbrev pub Short : List ℕ → Type 0

@@ -24,7 +24,7 @@ fn outline_lines(p: &[f32], out: &mut [u8], at: usize) -> usize
 {
     let mut vertices = [0f32; 1280];
     let n = p.len() / 2;
-    let m = hull::convex_hull(p, &mut vertices);
+    let m = hull::walk::convex_hull(p, &mut vertices);
     let next = line(out, at, b"outline", &[n as u32, m as u32]);
     quad_line(&vertices[..2 * m], out, next)
 }
@@ -121,7 +121,7 @@ fn all_regions(
 }
 
 // The listing of a picture.
-pub fn picture_text(s: &[u8], w: usize, h: usize, out: &mut [u8]) -> usize
+pub(crate) fn picture_text(s: &[u8], w: usize, h: usize, out: &mut [u8]) -> usize
     requires { ⌜ TrayPicture (now s) w h ⌝ }
     requires { ⌜ 352 ≤ length (now out) ⌝ }
     ensures { λ r. ⌜

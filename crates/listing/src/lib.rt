@@ -5,10 +5,10 @@ ghost use Prim.Native.Nat.{_≤_};
 ghost use lib.ListN.{length};
 ghost use Rattle.listing.specs.Listing.{textOf, filled};
 
+pub mod claims;
 mod describe;
 mod lines;
 pub mod record;
-mod text;
 
 // A listing: its bytes, with zeros after them, and how many there are.
 pub struct Printed {

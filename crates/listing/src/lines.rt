@@ -1,21 +1,35 @@
 // Lines of the listing.
-use crate::text::put_byte;
-use crate::text::put_numbers;
-use crate::text::put_word;
 use hull::points::Corners;
 use hull::points::Quad;
+use text::put_byte;
+use text::put_word;
 ghost use mathlib.Core.Path.{_≡_};
 ghost use mathlib.Core.List.{[], _∷_};
 ghost use Prim.Native.Nat.{_+_, _*_, _<_, _≤_};
 ghost use lib.ListN.{length};
 ghost use Rattle.hull.specs.Quad.{quadFloats, valuesOf};
 ghost use Rattle.hull.specs.declared.points.Corners.the-variants.{Found};
-ghost use Rattle.listing.specs.Text.{lineOf};
+ghost use Rattle.text.specs.Text.{lineOf, spaced};
 ghost use Rattle.laws.specs.Lent.{Stored};
 ghost use Rattle.listing.specs.Put.{Short, Near, doubledOf, cornersLine};
 
+// Numbers below 1,000, a space before each.
+fn put_numbers(out: &mut [u8], at: usize, ns: &[u32]) -> usize
+    requires { ⌜ Short (now ns) ⌝ }
+    requires { ⌜ at + 4 * length (now ns) ≤ length (now out) ⌝ }
+    ensures { λ r. ⌜ Stored at (spaced (now (ns .entry))) (now (out .entry)) (now (out .exit)) r ⌝ }
+{
+    let mut to = at;
+    let mut i = 0;
+    while i < ns.len() {
+        to = text::put_spaced(out, to, ns[i] as usize);
+        i += 1;
+    }
+    to
+}
+
 // A word, numbers below 1,000 with a space before each, and a line feed.
-pub fn line(out: &mut [u8], at: usize, word: &[u8], ns: &[u32]) -> usize
+pub(crate) fn line(out: &mut [u8], at: usize, word: &[u8], ns: &[u32]) -> usize
     requires { ⌜ Short (now ns) ⌝ }
     requires { ⌜ at + (length (now word) + (4 * length (now ns) + 1)) ≤ length (now out) ⌝ }
     ensures { λ r. ⌜
@@ -59,7 +73,7 @@ fn corners(q: Quad, out: &mut [u8], at: usize) -> usize
 }
 
 // The line of the quad of the vertices p.
-pub fn quad_line(p: &[f32], out: &mut [u8], at: usize) -> usize
+pub(crate) fn quad_line(p: &[f32], out: &mut [u8], at: usize) -> usize
     requires { ⌜ Near (now p) ⌝ }
     requires { ⌜ at + 37 ≤ length (now out) ⌝ }
     ensures { λ r. ⌜

@@ -8,6 +8,7 @@ use lib.Ieee.{Float}
 use lib.ListN.{length, getD}
 use Rattle.lcr_core.specs.Version.{isVersion, positionsOf}
 use Rattle.laws.specs.Check.{orRefuse}
+use Rattle.laws.specs.Said.{Said, refuse, give}
 use Rattle.marks.specs.Pose.{countsOf}
 use Rattle.marks.specs.Correlate.{bestOf, score}
 use Rattle.marks.specs.Classify.{lights}
@@ -52,3 +53,14 @@ classifyAnswer v lumas marks = classifyChecks v (length lumas) (length marks)
 abbrev pub marksAfter : Classified → List Float → List Bool → List Bool
 marksAfter classified.Done s old = lights s
 marksAfter (classified.Refused n) s old = old
+
+-- ---- what each answer says
+-- The score, the corner, and whether the ring runs backwards.
+abbrev pub bestSaid : Best → Said (Float × ℕ × Bool)
+bestSaid (best.Pose x r b) = give (x, r, b)
+bestSaid (best.Refused n) = refuse n
+
+-- That the marks are written; they are all that it gives.
+abbrev pub classifiedSaid : Classified → Said (Unit {0})
+classifiedSaid classified.Done = give tt
+classifiedSaid (classified.Refused n) = refuse n

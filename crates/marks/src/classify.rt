@@ -124,7 +124,7 @@ fn classify_all(lumas: &[f32], marks: &mut [bool])
 }
 
 // The checks in order: 8, then 11 for the lumas, then 11 for the marks.
-fn check(version: u8, lumas: usize, marks: usize) -> Classified
+fn check(version: u32, lumas: usize, marks: usize) -> Classified
     ensures { λ r. ⌜ r ≡ classifyChecks version lumas marks ⌝ }
 {
     let VersionAnswer::Known(v) = Version::new(version) else {
@@ -141,7 +141,7 @@ fn check(version: u8, lumas: usize, marks: usize) -> Classified
 }
 
 // Light or dark at each position of a version, into the lent marks; a refusal leaves them.
-pub fn classify(version: u8, lumas: &[f32], marks: &mut [bool]) -> Classified
+pub fn classify(version: u32, lumas: &[f32], marks: &mut [bool]) -> Classified
     ensures { λ r. ⌜ r ≡ classifyAnswer version (now (lumas .entry)) (now (marks .entry)) ⌝ }
     ensures { λ r. ⌜ now (marks .exit) ≡ marksAfter r (now (lumas .entry)) (now (marks .entry)) ⌝ }
 {

@@ -47,7 +47,7 @@ fn one_if_same(a: bool, b: bool) -> u16
 }
 
 // The place after this one, of n in a ring; backward where reversed.
-pub fn next_place(at: usize, n: usize, reversed: bool) -> usize
+fn next_place(at: usize, n: usize, reversed: bool) -> usize
     requires { ⌜ at < n ⌝ }
     requires { ⌜ n < 4096 ⌝ }
     ensures within { λ r. ⌜ r < n ⌝ }
@@ -146,10 +146,10 @@ fn best_of(counts: [u16; 8]) -> usize
 }
 
 // Count / positions.
-pub fn score_of(version: Version, count: u16) -> f32
+fn score_of(version: Version, count: u16) -> f32
     ensures { λ r. ⌜ r ≡ score (version .0) count ⌝ }
 {
-    let n = 16 * (version.get() as u16) + 88;
+    let n = version.positions() as u16;
     (count as f32) / (n as f32)
 }
 
@@ -168,7 +168,7 @@ fn best_pose(marks: &[bool], version: Version) -> Correlated
 }
 
 // The agreement of marks with the sequence of a version. Refusals: 8, then 11.
-pub fn correlate(version: u8, marks: &[bool]) -> Correlated
+pub fn correlate(version: u32, marks: &[bool]) -> Correlated
     ensures { λ r. ⌜ r .best ≡ correlateAnswer version (now (marks .entry)) ⌝ }
     ensures { λ r. ⌜ r .counts ≡ countsBeside (r .best) version (now (marks .entry)) ⌝ }
 {

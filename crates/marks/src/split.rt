@@ -104,7 +104,7 @@ fn same(a: f32, b: f32) -> bool
 
 // The split of a window: four rounds from its mean. A round that leaves the threshold as it is ends
 // them, since those after it would too.
-pub fn split_of(w: &[f32]) -> f32
+pub(crate) fn split_of(w: &[f32]) -> f32
     requires { ⌜ 0 < length (now w) ⌝ }
     requires { ⌜ length (now w) ≤ 33 ⌝ }
     ensures { λ r. ⌜ r ≡ split (now (w .entry)) ⌝ }

@@ -24,7 +24,7 @@ pub fn answer(kind: u32, args: &[u32], out: &mut [u32]) -> usize {
     if args.len() < 2 {
         return 0;
     }
-    let v = (args[0] % 256) as u8;
+    let v = args[0];
     let n = words::many(args[1]);
     if MOST < n {
         return 0;
@@ -131,7 +131,7 @@ fn classified(kind: u32, answer: Classified, marks: &[bool], out: &mut [u32]) ->
 }
 
 // `classify` on lent marks.
-fn lent(kind: u32, v: u8, lumas: &[f32], marks: &mut [bool], out: &mut [u32]) -> usize
+fn lent(kind: u32, v: u32, lumas: &[f32], marks: &mut [bool], out: &mut [u32]) -> usize
     requires { ⌜ length (now marks) ≤ 2048 ⌝ }
 {
     lend(marks);
@@ -139,7 +139,7 @@ fn lent(kind: u32, v: u8, lumas: &[f32], marks: &mut [bool], out: &mut [u32]) ->
     classified(kind, answer, marks, out)
 }
 
-fn classify(kind: u32, v: u8, m: usize, words: &[u32], out: &mut [u32]) -> usize
+fn classify(kind: u32, v: u32, m: usize, words: &[u32], out: &mut [u32]) -> usize
     requires { ⌜ m ≤ 2048 ⌝ }
     requires { ⌜ length (now words) ≤ 2048 ⌝ }
 {
@@ -197,7 +197,7 @@ fn correlated(answer: Correlated, out: &mut [u32]) -> usize {
     }
 }
 
-fn correlate(v: u8, n: usize, words: &[u32], out: &mut [u32]) -> usize
+fn correlate(v: u32, n: usize, words: &[u32], out: &mut [u32]) -> usize
     requires { ⌜ n ≤ 2048 ⌝ }
 {
     let mut marks = room();

@@ -8,7 +8,7 @@ use Rattle.ieee.specs.Ops.{abs}
 use Rattle.ieee.specs.Constants.{1e-9, 1e-12}
 use Rattle.math.specs.Elimination.{forwardOn, pivotOn}
 use Rattle.math.specs.Equations.{finished, solution, solveAnswer}
-use Rattle.math.specs.Answers.{refuse}
+use Rattle.laws.specs.Said.{refuse}
 use Rattle.math.specs.declared.Found.the-variants.{Nothing, Solved}
 
 -- ---- size 1: a pivot of 1e-12 is solved, one of 9e-13 is none, a NaN is solved and gives a NaN

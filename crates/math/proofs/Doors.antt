@@ -10,7 +10,8 @@ use lib.Ieee.{Float, binary64, ofBits}
 use Rattle.laws.proofs.Steps.{take-replicate, drop-replicate}
 use borrow.Author.Tests.{eq-eqb, ne-eqb, le-leb, lt-leb, lt-ltb, le-ltb}
 use Rattle.laws.specs.Check.{orRefuse}
-use Rattle.math.specs.Answers.{refuse, solutionSaid}
+use Rattle.laws.specs.Said.{refuse}
+use Rattle.math.specs.Answers.{solutionSaid}
 use Rattle.math.specs.declared.Solution.{Solution}
 use Rattle.math.specs.Equations.{zeros, without, solution, solveAnswer, normal, fitted, fitAnswer}
 

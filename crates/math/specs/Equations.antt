@@ -10,7 +10,8 @@ use Rattle.ieee.specs.Constants.{1e-9}
 use Rattle.math.specs.Lists.{at}
 use Rattle.math.specs.Elimination.{System, sys, Outcome, forwardOn, backOn}
 use Rattle.laws.specs.Check.{orRefuse}
-use Rattle.math.specs.Answers.{Said, refuse, solutionSaid}
+use Rattle.laws.specs.Said.{Said, refuse}
+use Rattle.math.specs.Answers.{solutionSaid}
 use Rattle.math.specs.declared.Found.the-variants.{Nothing, Solved}
 use Rattle.math.specs.declared.Solution.{Solution}
 
@@ -37,7 +38,7 @@ unfolding finished forwardOn
 solution n a b = finished n (forwardOn n n 0 (sys a b))
 
 -- 9: size outside 1..8, or lengths that disagree: not n * n and n
-unfoldable pub solveAnswer : ℕ → List Float → List Float → Said
+unfoldable pub solveAnswer : ℕ → List Float → List Float → Said (List Float)
 unfolding solution
 solveAnswer n a b =
     orRefuse (leb 1 n && leb n 8) (refuse 9)
@@ -92,7 +93,7 @@ fitted n basis targets =
     cond (ltb (length targets) n) without (solution n (normal n basis targets .m) (normal n basis targets .v))
 
 -- 9: terms outside 1..8, or not n values a sample
-unfoldable pub fitAnswer : ℕ → List Float → List Float → Said
+unfoldable pub fitAnswer : ℕ → List Float → List Float → Said (List Float)
 unfolding fitted
 fitAnswer n basis targets =
     orRefuse (leb 1 n && leb n 8) (refuse 9)

@@ -55,7 +55,7 @@ fn run_copy(m: &mut [f64], v: &mut [f64], a: &[f64], b: &[f64], n: usize) -> cra
 }
 
 // The same with room for the copies: less of it for up to four equations.
-pub fn on_copies(a: &[f64], b: &[f64], n: usize) -> crate::Solution
+pub(crate) fn on_copies(a: &[f64], b: &[f64], n: usize) -> crate::Solution
     requires { ⌜ n ≤ 8 ⌝ }
     requires { ⌜ length (now a) ≡ n * n ⌝ }
     requires { ⌜ length (now b) ≡ n ⌝ }
@@ -136,7 +136,7 @@ fn nudge(m: &mut [f64], n: usize)
 }
 
 // The fit of the samples, with working lists of +0.
-pub fn fit(
+pub(crate) fn fit(
     m: &mut [f64],
     v: &mut [f64],
     basis: &[f64],

@@ -4,7 +4,8 @@ pub mod elimination;
 pub mod equations;
 
 ghost use mathlib.Core.Path.{_≡_};
-ghost use Rattle.math.specs.Answers.{refuse, solutionSaid};
+ghost use Rattle.laws.specs.Said.{refuse};
+ghost use Rattle.math.specs.Answers.{solutionSaid};
 ghost use Rattle.math.specs.Equations.{solveAnswer, fitAnswer};
 
 // What a door of equations answers.

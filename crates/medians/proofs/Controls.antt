@@ -4,7 +4,7 @@ use mathlib.Core.List.{[], _∷_}
 use Prim.Native.Nat.{ℕ}
 use lib.Ieee.{Float, nan, binary32, ofBits, lt, mul, add}
 use Rattle.ieee.specs.Ops.{finite}
-use Rattle.math.specs.Answers.{refuse}
+use Rattle.laws.specs.Said.{refuse}
 use Rattle.medians.specs.Median.{count, isKth, firstWith, kth, median, usable, allUsable, checked, medianAnswer}
 
 -- ---- medians: of none 0; of 3, 1, 2 it is 2; of 4, 1, 2, 3 it is 2.5; of -1e-45 and 0 it is -0

@@ -42,7 +42,7 @@ use Rattle.ieee.specs.Ops.{plain}
 use Rattle.ieee.specs.Constants.{1·4826}
 use Rattle.medians.specs.Median.{SameValues, half, median, usable, allUsable, bad, Numbers, away, madSigma}
 use Rattle.laws.specs.Check.{orRefuse}
-use Rattle.math.specs.Answers.{Said, refuse}
+use Rattle.laws.specs.Said.{Said, refuse}
 use Rattle.medians.specs.Select.{Selected, Largest}
 use Rattle.medians.specs.Median.{checked}
 use Rattle.medians.proofs.Order.{Good, good-of}
@@ -186,20 +186,20 @@ away-numbers s c h k =
     ap bad e ∙ away-good c (at s x) (usable-finite (at s x) (usable-at s h x m)) k)
 
 -- ---- the doors
-pub refuse-9 : (s : List Float) (a : Said) → 4096 < length s → refuse 9 ≡ checked s a
+pub refuse-9 : (s : List Float) (a : Said Float) → 4096 < length s → refuse 9 ≡ checked s a
 unfolding checked
 refuse-9 s a h = sym (ap (λ (b : Bool). orRefuse b (refuse 9) (orRefuse (allUsable s) (refuse 10) a)) (lt-leb _ _ h))
 
-within : (s : List Float) (a : Said) (t : Bool) → length s ≤ 4096 → allUsable s ≡ t → orRefuse t (refuse 10) a ≡ checked s a
+within : (s : List Float) (a : Said Float) (t : Bool) → length s ≤ 4096 → allUsable s ≡ t → orRefuse t (refuse 10) a ≡ checked s a
 unfolding checked
 within s a t h e =
     sym (ap (λ (b : Bool). orRefuse b (refuse 9) (orRefuse (allUsable s) (refuse 10) a)) (le-leb _ _ h)
     ∙ ap (λ (b : Bool). orRefuse b (refuse 10) a) e)
 
-pub refuse-10 : (s : List Float) (a : Said) → length s ≤ 4096 → allUsable s ≡ false → refuse 10 ≡ checked s a
+pub refuse-10 : (s : List Float) (a : Said Float) → length s ≤ 4096 → allUsable s ≡ false → refuse 10 ≡ checked s a
 refuse-10 s a h e = within s a false h e
 
-pub pass : (s : List Float) (a : Said) → length s ≤ 4096 → allUsable s ≡ true → a ≡ checked s a
+pub pass : (s : List Float) (a : Said Float) → length s ≤ 4096 → allUsable s ≡ true → a ≡ checked s a
 pass s a h e = within s a true h e
 
 -- ---- the working list

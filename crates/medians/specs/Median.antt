@@ -10,7 +10,7 @@ use lib.Ieee.{Float, nan, binary32, lt, add, sub, mul, fits, ofBits}
 use Rattle.ieee.specs.Ops.{abs, finite, plain}
 use Rattle.ieee.specs.Constants.{1·4826}
 use Rattle.laws.specs.Check.{orRefuse}
-use Rattle.math.specs.Answers.{Said, refuse, give}
+use Rattle.laws.specs.Said.{Said, refuse, none, give}
 use Rattle.medians.specs.declared.Answer.{Answer}
 use Rattle.medians.specs.declared.Answer.the-variants.{Number, Refused}
 
@@ -94,26 +94,27 @@ unfolding count bad
 Numbers s = count bad s ≡ 0
 
 -- 9: over 4,096 values. 10: a NaN, an infinity or -0 among them
-unfoldable pub checked : List Float → Said → Said
+unfoldable pub checked : List Float → Said Float → Said Float
 unfolding allUsable
 checked s rest = orRefuse (leb (length s) 4096) (refuse 9) (orRefuse (allUsable s) (refuse 10) rest)
 
 -- what `median` answers
-unfoldable pub medianAnswer : List Float → Said
+unfoldable pub medianAnswer : List Float → Said Float
 unfolding checked median
-medianAnswer s = checked s (give (median s ∷ []))
+medianAnswer s = checked s (give (median s))
 
 -- what `mad_sigma` answers
-unfoldable pub madSigmaAnswer : List Float → Said
+unfoldable pub madSigmaAnswer : List Float → Said Float
 unfolding checked madSigma
-madSigmaAnswer s = checked s (give (madSigma s ∷ []))
+madSigmaAnswer s = checked s (give (madSigma s))
 
 -- what each case of `Answer` says
-abbrev pub said : Answer → Said
-said (Number x) = give (x ∷ [])
+abbrev pub said : Answer → Said Float
+said (Number x) = give x
 said (Refused k) = refuse k
 
--- what `median` leaves in the lent list: as it was after a refusal, else the same values in some order
-abbrev pub Left : Answer → List Float → List Float → Type 0
-Left (Number x) s t = SameValues s t
-Left (Refused n) s t = t ≡ s
+-- what `median` leaves in the lent list: the same values in some order where it gives one, else the list as it was
+abbrev pub Left : Said Float → List Float → List Float → Type 0
+Left (give x) s t = SameValues s t
+Left none s t = t ≡ s
+Left (refuse n) s t = t ≡ s

@@ -17,7 +17,7 @@ pub enum Answer {
 // The median of a list, whose values it leaves in some order.
 pub fn median(values: &mut [f32]) -> Answer
     ensures { λ r. ⌜ (said r ≡ medianAnswer (now (values .entry)))
-        × Left r (now (values .entry)) (now (values .exit)) ⌝ }
+        × Left (said r) (now (values .entry)) (now (values .exit)) ⌝ }
 {
     if 4096 < values.len() {
         return Answer::Refused(9);

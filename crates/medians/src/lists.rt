@@ -25,7 +25,7 @@ fn both(a: bool, b: bool) -> bool
 }
 
 // Whether all values are finite and not -0. It looks at every value, with no way out between.
-pub fn all_fit(v: &[f32]) -> bool
+pub(crate) fn all_fit(v: &[f32]) -> bool
     ensures { λ r. ⌜ (r ≡ allUsable (now (v .entry))) × (r ≡ true → Numbers (now (v .entry))) ⌝ }
 {
     let mut ok = true;
@@ -69,7 +69,7 @@ fn distances(to: &mut [f32], from: &[f32], c: f32)
 }
 
 // The median distance from the median, times 1.4826, with a working list of as many places.
-pub fn spread(work: &mut [f32], values: &[f32]) -> f32
+pub(crate) fn spread(work: &mut [f32], values: &[f32]) -> f32
     requires { ⌜ length (now work) ≡ length (now values) ⌝ }
     requires { ⌜ allUsable (now values) ≡ true ⌝ }
     requires { ⌜ Numbers (now values) ⌝ }

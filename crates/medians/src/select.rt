@@ -130,7 +130,7 @@ fn largest(v: &[f32], n: usize) -> f32
 }
 
 // The median; of usable values it is no NaN.
-pub fn middle(v: &mut [f32]) -> f32
+pub(crate) fn middle(v: &mut [f32]) -> f32
     requires { ⌜ Numbers (now v) ⌝ }
     ensures { λ r. ⌜ (r ≡ median (now (v .entry))) × SameValues (now (v .entry)) (now (v .exit)) ⌝ }
     ensures { λ r. ⌜ (allUsable (now (v .entry)) ≡ true → Ieee.isNan r ≡ false) ⌝ }

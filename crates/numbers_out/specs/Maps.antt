@@ -7,10 +7,10 @@ use lib.Ieee.{Float, nan}
 use Rattle.hull.specs.Points.{many}
 use Rattle.laws.specs.Fold.{joined}
 use Rattle.math.specs.Lists.{at}
-use Rattle.transform.specs.Mapping.{applied}
+use Rattle.laws.specs.Said.{resultOf, leftBy}
+use Rattle.transform.specs.Mapping.{applied, mappedSaid}
 use Rattle.transform.specs.declared.Transform.{Transform}
 use Rattle.transform.specs.declared.Mapped.{Mapped}
-use Rattle.transform.specs.declared.Mapped.the-variants as mapped
 
 -- The transform of eleven numbers: coefficients m0 to m7, then the lens cx, cy, kappa.
 abbrev pub mapOf : List Float → Transform
@@ -35,12 +35,10 @@ elevenOf t =
 
 -- The result where a transform may be none, and what is left of a list of eleven.
 abbrev pub mappedResult : Mapped → ℕ
-mappedResult mapped.None = 255
-mappedResult (mapped.Some t) = 0
+mappedResult a = resultOf (mappedSaid a)
 
 abbrev pub mappedAfter : Mapped → List Float → List Float
-mappedAfter mapped.None old = old
-mappedAfter (mapped.Some t) old = elevenOf t
+mappedAfter a old = leftBy elevenOf (mappedSaid a) old
 
 -- ---- many places
 -- The pixel of place i of a list, u and v by turns: its x and y.

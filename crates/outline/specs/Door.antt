@@ -6,6 +6,7 @@ use Prim.Native.Nat.{ℕ, zero, suc, _+_, _-_, _*_}
 use lib.Dec.{leb, ltb}
 use lib.Ieee.{Float}
 use Rattle.laws.specs.Check.{orRefuse}
+use Rattle.laws.specs.Said.{Said, refuse, give}
 use Rattle.laws.specs.Move.{Box}
 use Rattle.checks.specs.Picture.{checkPicture}
 use Rattle.levels.specs.Level.{cells}
@@ -48,6 +49,11 @@ doorPoints want w s levels labels x0 y0 x1 y1 = boundary 4 (memberAt want w s le
 unfoldable pub answered : ℕ → ℕ → Answer
 answered zero points = Points points
 answered (suc n) points = Refused (suc n)
+
+-- What an answer says: how many points.
+abbrev pub outlineSaid : Answer → Said ℕ
+outlineSaid (Points n) = give n
+outlineSaid (Refused n) = refuse n
 
 -- The lent list after the call: the points in its first places and the rest untouched, or as it was.
 unfoldable pub listAfter : ℕ → List (ℕ × ℕ) → List Float → List Float

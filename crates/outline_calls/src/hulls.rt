@@ -2,12 +2,13 @@
 ghost use mathlib.Core.Path.{_≡_};
 ghost use Prim.Native.Nat.{_≤_};
 ghost use lib.ListN.{length};
+use hull::Hulled;
 use hull::points::Corners;
 use hull::points::Quad;
 use words::floats;
 
 // Room for the longest list of numbers.
-pub fn room() -> [f32; 2048]
+pub(crate) fn room() -> [f32; 2048]
     ensures { λ r. ⌜ 2048 ≡ length r ⌝ }
 {
     [0f32; 2048]
@@ -20,7 +21,7 @@ fn lent_number(k: usize) -> f32 {
 }
 
 // Fills a list that is to be lent.
-pub fn lend(list: &mut [f32])
+pub(crate) fn lend(list: &mut [f32])
     requires { ⌜ length (now list) ≤ 2048 ⌝ }
 {
     let mut k: usize = 0;
@@ -42,7 +43,7 @@ fn put_floats(from: &[f32], out: &mut [u32], at: usize)
 }
 
 // 0 and the numbers of a lent list.
-pub fn listed(list: &[f32], out: &mut [u32]) -> usize
+pub(crate) fn listed(list: &[f32], out: &mut [u32]) -> usize
     requires { ⌜ length (now list) ≤ 2048 ⌝ }
 {
     let n = list.len() + 1;
@@ -55,7 +56,7 @@ pub fn listed(list: &[f32], out: &mut [u32]) -> usize
 }
 
 // 0, a number and the numbers of a lent list.
-pub fn told(n: usize, list: &[f32], out: &mut [u32]) -> usize
+pub(crate) fn told(n: usize, list: &[f32], out: &mut [u32]) -> usize
     requires { ⌜ length (now list) ≤ 2048 ⌝ }
 {
     let m = list.len() + 2;
@@ -72,15 +73,15 @@ pub fn told(n: usize, list: &[f32], out: &mut [u32]) -> usize
 fn hull_lent(p: &[f32], list: &mut [f32], out: &mut [u32]) -> usize
     requires { ⌜ length (now list) ≤ 2048 ⌝ }
 {
-    if list.len() < p.len() {
-        return words::one(out, 3);
-    }
     lend(list);
-    let n = hull::convex_hull(p, list);
-    told(n, list, out)
+    let answer = hull::convex_hull(p, list);
+    match answer {
+        Hulled::Vertices(n) => told(n, list, out),
+        Hulled::Refused(n) => words::one(out, n),
+    }
 }
 
-pub fn hull_call(args: &[u32], out: &mut [u32]) -> usize {
+pub(crate) fn hull_call(args: &[u32], out: &mut [u32]) -> usize {
     if args.len() < 1 {
         return 0;
     }
@@ -114,7 +115,7 @@ fn put_quad(q: Quad, out: &mut [u32]) -> usize {
     10
 }
 
-pub fn quad_call(args: &[u32], out: &mut [u32]) -> usize {
+pub(crate) fn quad_call(args: &[u32], out: &mut [u32]) -> usize {
     let n = args.len();
     if 2048 < n {
         return 0;

@@ -32,7 +32,7 @@ fn listed_record(record: &[u8], out: &mut [u32]) -> usize {
     told_text(&text, len, out)
 }
 
-pub fn listing_call(args: &[u32], out: &mut [u32]) -> usize {
+pub(crate) fn listing_call(args: &[u32], out: &mut [u32]) -> usize {
     if args.len() < 1 {
         return 0;
     }

@@ -2,8 +2,9 @@
 // lists.
 ghost use mathlib.Core.Path.{_≡_};
 ghost use Prim.Native.Nat.{_≤_};
-ghost use lib.ListN.{length};
+ghost use lib.ListN.{length, getD};
 ghost use Rattle.packed.specs.Rooms.{HasPlaces};
+ghost use Rattle.packed.specs.Words.{wordAt};
 
 // Room for 1,048,576 bytes.
 pub fn room() -> [u8; 1048576]
@@ -20,7 +21,7 @@ pub fn list_room() -> [f32; 32770]
 }
 
 // The j-th byte of a word, lowest first; the highest from 3 on.
-pub fn part(word: u32, j: usize) -> u8 {
+fn part(word: u32, j: usize) -> u8 {
     if j == 0 {
         return (word % 256) as u8;
     }
@@ -34,7 +35,7 @@ pub fn part(word: u32, j: usize) -> u8 {
 }
 
 // The byte at a place of words; 0 past their end.
-pub fn byte(words: &[u32], k: usize) -> u8 {
+fn byte(words: &[u32], k: usize) -> u8 {
     if words.len() <= k / 4 {
         return 0;
     }
@@ -67,14 +68,14 @@ pub fn words_of(n: usize) -> usize
 
 // A byte as a number.
 fn wide(b: u8) -> u32
-    ensures { λ r. ⌜ r ≤ 255 ⌝ }
+    ensures { λ r. ⌜ (r ≡ b) × (r ≤ 255) ⌝ }
 {
     b as u32
 }
 
 // The byte at a place as a number; 0 past the end.
 fn byte_at(bytes: &[u8], k: usize) -> u32
-    ensures { λ r. ⌜ r ≤ 255 ⌝ }
+    ensures { λ r. ⌜ (r ≡ getD (now (bytes .entry)) k 0) × (r ≤ 255) ⌝ }
 {
     if k < bytes.len() {
         return wide(bytes[k]);
@@ -82,9 +83,10 @@ fn byte_at(bytes: &[u8], k: usize) -> u32
     0
 }
 
-// The word of the four bytes from a place on.
+// The word of the four bytes from a place on; bytes past the end count as 0.
 pub fn word_at(bytes: &[u8], k: usize) -> u32
     requires { ⌜ k ≤ 2000000 ⌝ }
+    ensures { λ r. ⌜ r ≡ wordAt (now (bytes .entry)) k ⌝ }
 {
     byte_at(bytes, k)
         + byte_at(bytes, k + 1) * 256

@@ -153,8 +153,9 @@ pub fn picture(
     let Next::At(v) = ink_map(s, w, h, grid, labels, stack) else {
         return refusal(4);
     };
+    let found = count_regions(s, w, h, labels, stack, v);
     PictureAnswer {
         refused: 0,
-        regions: count_regions(s, w, h, labels, stack, v),
+        regions: found,
     }
 }

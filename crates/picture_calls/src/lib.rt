@@ -53,7 +53,7 @@ fn put_region(r: Region, out: &mut [u32], at: usize)
 }
 
 // The 26 numbers of the regions, all, kept, four regions, from a place on.
-pub fn put_regions(k: Kept, out: &mut [u32], at: usize)
+fn put_regions(k: Kept, out: &mut [u32], at: usize)
     requires { ⌜ at ≤ 1 ⌝ }
 {
     put(out, at, (k.all % 4294967296) as u32);

@@ -10,7 +10,7 @@ fn lent_word(k: usize) -> u32 {
     (n - n % 2 + 1) as u32
 }
 
-pub fn lend_bytes(list: &mut [u8]) {
+pub(crate) fn lend_bytes(list: &mut [u8]) {
     let mut k: usize = 0;
     while k < list.len() {
         list[k] = ((k % 256 * 7 + 3) % 256) as u8;
@@ -18,7 +18,7 @@ pub fn lend_bytes(list: &mut [u8]) {
     }
 }
 
-pub fn lend_words(list: &mut [u32]) {
+pub(crate) fn lend_words(list: &mut [u32]) {
     let mut k: usize = 0;
     while k < list.len() {
         list[k] = lent_word(k);
@@ -38,7 +38,7 @@ fn word_at(list: &[u32], past: usize, k: usize) -> u32 {
 }
 
 // The words of a list, the first `past` of them as 0, from a place on.
-pub fn put_words(list: &[u32], past: usize, out: &mut [u32], at: usize)
+pub(crate) fn put_words(list: &[u32], past: usize, out: &mut [u32], at: usize)
     requires { ⌜ (length (now list) ≤ 512) × (at ≤ 2048) ⌝ }
 {
     let mut k: usize = 0;

@@ -4,9 +4,9 @@ use mathlib.Core.List.{List}
 use Prim.Native.Nat.{ℕ, zero, suc}
 use lib.ListN.{length}
 use lib.Ieee.{Float}
-use Rattle.outline.specs.Door.{checkOutline, doorPoints, answered, listAfter}
+use Rattle.laws.specs.Said.{resultOf, leftOf}
+use Rattle.outline.specs.Door.{checkOutline, doorPoints, answered, outlineSaid, listAfter}
 use Rattle.outline.specs.declared.Answer.{Answer}
-use Rattle.outline.specs.declared.Answer.the-variants as outline
 
 -- By the result: the value, or the old one.
 abbrev pub afterBy : {A : Type 0} → ℕ → A → A → A
@@ -28,9 +28,7 @@ outlineAfter s levels labels want w h x0 y0 x1 y1 old =
     (doorPoints want w s levels labels x0 y0 x1 y1) old
 
 abbrev pub outlineResult : Answer → ℕ
-outlineResult (outline.Points n) = 0
-outlineResult (outline.Refused n) = n
+outlineResult a = resultOf (outlineSaid a)
 
 abbrev pub pointsAfter : Answer → ℕ → ℕ
-pointsAfter (outline.Points n) old = n
-pointsAfter (outline.Refused n) old = old
+pointsAfter a old = leftOf (outlineSaid a) old

@@ -168,7 +168,7 @@ module _ (ink : ℕ → Bool) (near : ℕ → ℕ → Bool) where
         ∙ (ap (λ (d : ℕ). suc (count (first? ink near n) d)) (leader-same r) ∙ sym (label-ink b (linked-right r)))
 
     -- the first cell of a group is before that of another: its label is less
-    label-less : (a b : ℕ) → ink a ≡ true → ink b ≡ true → leader ink near n a < leader ink near n b
+    pub label-less : (a b : ℕ) → ink a ≡ true → ink b ≡ true → leader ink near n a < leader ink near n b
         → label ink near n a < label ink near n b
     label-less a b i j h =
         omega (

@@ -1,4 +1,5 @@
--- The kept groups where groups are numbered anew: as many, and the i-th is the i-th's new number, where no two wanted sizes are equal.
+-- Groups that are numbered anew: there are as many, as many are kept, and the i-th kept is the i-th's new number, where no two wanted
+-- sizes are equal.
 -- Assumes nothing.
 use mathlib.Core.Path.{_≡_, refl, sym, _∙_, ap}
 use mathlib.Core.Logic.{_⊎_, inl, inr, ⊎-elim}
@@ -10,7 +11,7 @@ use lib.Dec.{eqb, ltb, leb}
 use borrow.Author.Tests.{eq-eqb, ne-eqb, eqb-true, lt-ltb, ltb-true}
 use Rattle.laws.specs.Count.{count, least}
 use Rattle.laws.proofs.Bools.{both, and-left, and-right, either, or-left, or-right, which, clash}
-use Rattle.laws.proofs.Counts.{count-into, count-add, count-ext, count-yes, least-le, least-before, least-end}
+use Rattle.laws.proofs.Counts.{count-into, count-add, count-ext, count-yes, count-every, least-le, least-before, least-end}
 use Rattle.regions.specs.Kept.{place, nth, aheadBy, ahead, want, keptOf, keptAt}
 use Rattle.regions.proofs.Select.{Order, nth-is, place-one, place-under}
 
@@ -153,6 +154,10 @@ module _ {s : ℕ → ℕ} {m : ℕ} {s′ : ℕ → ℕ} {m′ : ℕ} {r r′ :
   pub wanted-le : count (want s) m ≤ count (want s′) m′
   wanted-le = count-into (want s) m (want s′) m′ r (λ a h w. (q .to a h, want-to a h ∙ w)) (λ a b h k w u e. one a b h k e)
 
+  many-le : m ≤ m′
+  many-le = let z = count-into (λ _. true) m (λ _. true) m′ r (λ a h w. (q .to a h, refl)) (λ a b h k w u e. one a b h k e) in
+      omega (arith, count-every m, count-every m′, z)
+
   pub untied-to : Untied s m → Untied s′ m′
   unfolding Untied want
   untied-to u a b h k w v e =
@@ -177,6 +182,9 @@ module _ {s : ℕ → ℕ} {m : ℕ} {s′ : ℕ → ℕ} {m′ : ℕ} {r r′ :
       (λ b c k l t v e. one b c k l e)
 
 module _ {s : ℕ → ℕ} {m : ℕ} {s′ : ℕ → ℕ} {m′ : ℕ} {r r′ : ℕ → ℕ} (q : Anew s m s′ m′ r r′) where
+  pub many-same : m′ ≡ m
+  many-same = let x = many-le q in let y = many-le (anew-back q) in omega arith
+
   pub wanted-same : count (want s′) m′ ≡ count (want s) m
   wanted-same = let x = wanted-le q in let y = wanted-le (anew-back q) in omega arith
 

@@ -1,4 +1,5 @@
--- The kept regions of a moved picture: as many, and the i-th has the moved cells, the moved box and as many cells. Assumes nothing.
+-- A kept region has a cell. The regions of a moved picture: as many, and as many kept, of which the i-th has the moved cells, the moved
+-- box and as many cells. Assumes nothing.
 use mathlib.Core.Path.{_≡_, refl, sym, ap, ap₂, _∙_, subst}
 use mathlib.Core.Logic.{_↔_, _⊎_, inl, inr, ⊎-elim}
 use mathlib.Core.Bool.{Bool, true, false, _&&_}
@@ -23,8 +24,37 @@ use Rattle.regions.proofs.MovedBox.{lowest-lower, highest-upper, Pair, 
 use Rattle.regions.proofs.Order.{cellOf, cell-of, sized, renumber, renumber-is, renumber-lt, renumber-back, moved-sized}
 use Rattle.regions.proofs.Moving.{cellTo, cell-to}
 use Rattle.regions.proofs.Pictures.{grid-of, picture-carry, cell-ink-of, wide-cells, high-cells, ink-inside}
-use Rattle.regions.proofs.Kept.{Anew, Untied, At, kept-at, kept-same, kept-anew}
+use Rattle.regions.proofs.Kept.{Anew, Untied, At, kept-at, many-same, kept-same, kept-anew}
 use Rattle.regions.proofs.BoxMoves.{boxBy, box-pair, box-place, box≡, finerBox, box-finer}
+
+-- ---- a kept region of any picture: so many are large enough, and the region has a cell
+
+-- the first cell of the i-th
+abbrev leadCell : Plane → ℕ → ℕ → ℕ → ℕ
+leadCell p w h i = cellOf (inkCell p w h) (near (cells8 w)) (cellsOf w h) (keptAt (groupSize p w h) (groupsOf p w h) i)
+
+module _ (p : Plane) (w h i : ℕ) (l : i < keptCount p w h) where
+  enough : i < count (want (groupSize p w h)) (groupsOf p w h)
+  unfolding keptCount keptOf
+  enough = omega arith
+
+  kept-lt : keptAt (groupSize p w h) (groupsOf p w h) i < groupsOf p w h
+  kept-lt = kept-at (groupSize p w h) (groupsOf p w h) i enough .below
+
+  lead-is : (inkCell p w h (leadCell p w h i) ≡ true)
+      × (label (inkCell p w h) (near (cells8 w)) (cellsOf w h) (leadCell p w h i) ≡ suc (keptAt (groupSize p w h) (groupsOf p w h) i))
+  unfolding groupsOf
+  lead-is = cell-of (inkCell p w h) (near (cells8 w)) (cellsOf w h) (grid-of p w h) (keptAt (groupSize p w h) (groupsOf p w h) i) kept-lt
+
+  label-is : cellLabel p w h (leadCell p w h i) ≡ keptLabel p w h i
+  unfolding cellLabel keptLabel
+  label-is = lead-is .1
+
+  -- there is a cell
+  pub region-cell : (d : ℕ) × (d < cellsOf w h) × (cellLabel p w h d ≡ keptLabel p w h i)
+  region-cell = (leadCell p w h i, ink-inside p w h (leadCell p w h i) (lead-is .0), label-is)
+
+-- ---- the moved picture
 
 -- No two groups of 16 or more cells have equal counts: the same as the law of the order asks.
 module _ (m : Move) (W H : ℕ) (posW : 0 < W) (posH : 0 < H) (p p′ : Plane)
@@ -87,45 +117,35 @@ module _ (m : Move) (W H : ℕ) (posW : 0 < W) (posH : 0 < H) (p p′ : Plane)
     size = λ i l. moved-sized n n′ g g′ carry i l;
   }
 
+  pub group-count-of : groupsOf p′ w′ h′ ≡ groupsOf p w h
+  group-count-of = many-same anew
+
   pub kept-count-of : keptCount p′ w′ h′ ≡ keptCount p w h
   unfolding keptCount
   kept-count-of = kept-same anew
 
   module _ (untied : Untied (groupSize p w h) (groupsOf p w h)) (i : ℕ) (l : i < keptCount p w h) where
-    enough : i < count (want (groupSize p w h)) (groupsOf p w h)
-    unfolding keptCount keptOf
-    enough = omega arith
-
     abbrev k : ℕ
     k = keptAt (groupSize p w h) (groupsOf p w h) i
 
     -- a cell of the region
     abbrev c : ℕ
-    c = cellOf ink (near a) n k
+    c = leadCell p w h i
 
     k-lt : k < groupsOf p w h
-    k-lt = kept-at (groupSize p w h) (groupsOf p w h) i enough .below
+    k-lt = kept-lt p w h i l
 
     c-is : (ink c ≡ true) × (label ink (near a) n c ≡ suc k)
-    unfolding groupsOf
-    c-is = cell-of ink (near a) n g k k-lt
-
-    pub label-is : cellLabel p w h c ≡ keptLabel p w h i
-    unfolding cellLabel keptLabel
-    label-is = c-is .1
+    c-is = lead-is p w h i l
 
     pub label-is′ : cellLabel p′ w′ h′ (f c) ≡ keptLabel p′ w′ h′ i
     unfolding cellLabel keptLabel groupsOf
-    label-is′ = sym (renumber-is n n′ g g′ carry k k-lt) ∙ ap suc (sym (kept-anew anew untied i enough))
-
-    -- there is a cell
-    pub region-cell : (d : ℕ) × (d < n) × (cellLabel p w h d ≡ keptLabel p w h i)
-    region-cell = (c, ink-inside p w h c (c-is .0), label-is)
+    label-is′ = sym (renumber-is n n′ g g′ carry k k-lt) ∙ ap suc (sym (kept-anew anew untied i (enough p w h i l)))
 
     -- as many cells
     pub size-of : groupSize p′ w′ h′ (keptAt (groupSize p′ w′ h′) (groupsOf p′ w′ h′) i)
         ≡ groupSize p w h (keptAt (groupSize p w h) (groupsOf p w h) i)
-    size-of = ap (groupSize p′ w′ h′) (kept-anew anew untied i enough) ∙ anew .size k k-lt
+    size-of = ap (groupSize p′ w′ h′) (kept-anew anew untied i (enough p w h i l)) ∙ anew .size k k-lt
 
     -- a labelled cell is ink
     ink-labelled : (d : ℕ) → label ink (near a) n d ≡ suc k → ink d ≡ true
@@ -155,7 +175,7 @@ module _ (m : Move) (W H : ℕ) (posW : 0 < W) (posH : 0 < H) (p p′ : Plane)
         to : label ink (near a) n (cell a x y) ≡ keptLabel p w h i
             → label ink′ (near (cells8 w′)) n′ (cell (cells8 w′) (placeOf m a b x y .0) (placeOf m a b x y .1)) ≡ keptLabel p′ w′ h′ i
         to e =
-            let e₀ : label ink (near a) n (cell a x y) ≡ suc k = e ∙ sym label-is ∙ c-is .1 in
+            let e₀ : label ink (near a) n (cell a x y) ≡ suc k = e ∙ sym (label-is p w h i l) ∙ c-is .1 in
             let j = ink-labelled (cell a x y) e₀ in
             ap (label ink′ (near (cells8 w′)) n′) (sym fd)
             ∙ moved-groups n n′ g g′ carry (cell a x y) c j (c-is .0) .0 (e₀ ∙ sym (c-is .1)) ∙ label-is′
@@ -167,7 +187,7 @@ module _ (m : Move) (W H : ℕ) (posW : 0 < W) (posH : 0 < H) (p p′ : Plane)
             ≡ label ink′ (near (cells8 w′)) n′ (f c) = e ∙ sym label-is′ in
             let j′ = ink-labelled′ (cell (cells8 w′) (placeOf m a b x y .0) (placeOf m a b x y .1)) e₀ in
             let j : ink (cell a x y) ≡ true = sym (cell-ink-of m W H p p′ same x y lx ly) ∙ j′ in
-            moved-groups n n′ g g′ carry (cell a x y) c j (c-is .0) .1 (ap (label ink′ (near (cells8 w′)) n′) fd ∙ e₀) ∙ label-is
+            moved-groups n n′ g g′ carry (cell a x y) c j (c-is .0) .1 (ap (label ink′ (near (cells8 w′)) n′) fd ∙ e₀) ∙ label-is p w h i l
 
     -- the moved box, in cells
     abbrev q : ℕ → Bool
@@ -199,7 +219,7 @@ module _ (m : Move) (W H : ℕ) (posW : 0 < W) (posH : 0 < H) (p p′ : Plane)
         c c-lt (group-self ink (near a) n c) (λ d s t. let u = in-a d s in place-within m a b (d % a) (d / a) (u .0) (u .1))
         (λ d s t. to-at d s)
         ∙ box-place q n c c-lt (group-self ink (near a) n c) m a b (λ d. d % a) (λ d. d / a) (λ d s t. in-a d s)
-        ∙ ap (λ (z : ℕ). boxOf m a b (boxBy (λ d. eqb (label ink (near a) n d) z) (λ d. d % a) (λ d. d / a) a b n)) label-is
+        ∙ ap (λ (z : ℕ). boxOf m a b (boxBy (λ d. eqb (label ink (near a) n d) z) (λ d. d % a) (λ d. d / a) a b n)) (label-is p w h i l)
       where
         c-lt : c < n
         c-lt = ink-inside p w h c (c-is .0)

@@ -75,7 +75,7 @@ pub struct Picks {
     pub at: [usize; 4],
 }
 
-pub fn pick(sizes: &[u32]) -> Picks
+pub(crate) fn pick(sizes: &[u32]) -> Picks
     ensures { λ r. ⌜ Picked (now (sizes .entry)) (r .kept) (r .at) ⌝ }
 {
     let mut at = [0usize; 4];

@@ -13,7 +13,7 @@ pub struct Span {
     pub y1: usize,
 }
 
-pub fn least(a: usize, b: usize) -> usize
+pub(crate) fn least(a: usize, b: usize) -> usize
     ensures { λ r. ⌜ r ≡ min a b ⌝ }
 {
     if a < b { a } else { b }
@@ -43,7 +43,7 @@ fn grown(b: Span, is: bool, x: usize, y: usize) -> Span
 }
 
 // The box in cells of the label `l`, in a grid of `h` rows of `w` cells.
-pub fn span_of(labels: &[u32], l: u32, w: usize, h: usize) -> Span
+pub(crate) fn span_of(labels: &[u32], l: u32, w: usize, h: usize) -> Span
     requires { ⌜ Cells (now labels) w h ⌝ }
     ensures { λ r. ⌜ Small w h (r .x0) (r .y0) (r .x1) (r .y1) ⌝ }
     ensures { λ r. ⌜

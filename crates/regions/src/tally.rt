@@ -29,7 +29,7 @@ fn bump(sizes: &mut [u32], x: u32)
 }
 
 // How many cells have each label from 1 to the number of counters.
-pub fn tally(labels: &[u32], sizes: &mut [u32])
+pub(crate) fn tally(labels: &[u32], sizes: &mut [u32])
     requires { ⌜ length (now labels) ≤ 262144 ⌝ }
     requires { ⌜ ((c : ℕ) → getD (now labels) c 0 ≤ length (now sizes)) ⌝ }
     ensures { λ _. ⌜

@@ -117,7 +117,7 @@ fn stored(fd: i32, kind: u32, n: usize, m: usize) -> u32 {
 }
 
 // The next record of a file: END, SAME or DIFFERENT.
-pub fn next(fd: i32) -> u32 {
+pub(crate) fn next(fd: i32) -> u32 {
     let mut head = [0u32; 3];
     if !read(fd, &mut head) {
         return END;

@@ -24,7 +24,7 @@ pub fn attempt(
     width: usize,
     height: usize,
     points: &[f32],
-    most: u8,
+    most: u32,
     straight: &mut [f32],
     cand: &mut [f32],
     buf: &mut [f32],
@@ -44,7 +44,16 @@ pub fn attempt(
     let c = buf.len();
     let n = crate::refusals::check(width, height, gray.len(), points, a, b, c, most);
     if n == 0 {
-        let t = crate::attempt::attempt(gray, width, height, points, most, straight, cand, buf);
+        let t = crate::attempt::attempt(
+            gray,
+            width,
+            height,
+            points,
+            most as u8,
+            straight,
+            cand,
+            buf,
+        );
         return Answer {
             outcome: Outcome::Given,
             trace: t,

@@ -73,15 +73,7 @@ fn trace_by(q: Quad, l: Lens, hull: usize, s: Scores) -> Trace
 }
 
 // One candidate quad, correlated against every version.
-pub fn correlate_quad(
-    gray: &[u8],
-    w: usize,
-    h: usize,
-    q: Quad,
-    l: Lens,
-    hull: usize,
-    most: u8,
-) -> Trace
+fn correlate_quad(gray: &[u8], w: usize, h: usize, q: Quad, l: Lens, hull: usize, most: u8) -> Trace
     requires { ⌜ Photo (now gray) w h ⌝ }
     requires { ⌜ most ≤ 64 ⌝ }
     ensures { λ r. ⌜ r ≡ quadTrace (now (gray .entry)) w h q l hull most ⌝ }
@@ -125,7 +117,7 @@ fn better(t: Trace, u: Trace) -> Trace
 
 // The edge quad and the refined quad tried: the edge quad first, and only where it differs by more
 // than 3 at some corner.
-pub fn try_quads(
+pub(crate) fn try_quads(
     gray: &[u8],
     w: usize,
     h: usize,

@@ -1,5 +1,7 @@
 // The ring door's checks, in document 01's order: 1, 2, 6, 3, 7, 8. 0 is none of them.
 use checks::check_picture;
+use lcr_core::version::Version;
+use lcr_core::version::VersionAnswer;
 ghost use mathlib.Core.Path.{_≡_};
 ghost use lib.ListN.{length};
 ghost use Rattle.lcr_core.specs.Version.{isVersion};
@@ -54,18 +56,18 @@ fn coordinates(s: &[f32]) -> bool
     true
 }
 
-// Whether a number is one of a version: 1 to 64.
-fn is_version(v: u8) -> bool
+// Whether a number is one of a version.
+fn is_version(v: u32) -> bool
     ensures { λ r. ⌜ r ≡ isVersion v ⌝ }
 {
-    if v < 1 {
+    let VersionAnswer::Known(_) = Version::new(v) else {
         return false;
-    }
-    v <= 64
+    };
+    true
 }
 
 // The checks of the points, of the lengths a, b and c of the working lists, and of the version.
-fn check_points(s: &[f32], a: usize, b: usize, c: usize, most: u8) -> u32
+fn check_points(s: &[f32], a: usize, b: usize, c: usize, most: u32) -> u32
     ensures { λ r. ⌜ r ≡ checkPoints (now (s .entry)) a b c most ⌝ }
 {
     if !is_points(s.len()) {
@@ -84,7 +86,7 @@ fn check_points(s: &[f32], a: usize, b: usize, c: usize, most: u8) -> u32
 }
 
 // The number of the first check that fails; a, b and c are the lengths of the working lists.
-pub fn check(
+pub(crate) fn check(
     w: usize,
     h: usize,
     bytes: usize,
@@ -92,7 +94,7 @@ pub fn check(
     a: usize,
     b: usize,
     c: usize,
-    most: u8,
+    most: u32,
 ) -> u32
     ensures { λ r. ⌜ r ≡ checkRing w h bytes (now (s .entry)) a b c most ⌝ }
 {

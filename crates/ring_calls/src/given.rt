@@ -16,7 +16,7 @@ fn point(args: &[u32], k: usize) -> Point
 }
 
 // The quad of the eight words from k on.
-pub fn quad(args: &[u32], k: usize) -> Quad
+pub(crate) fn quad(args: &[u32], k: usize) -> Quad
     requires { ⌜ k ≤ 90 ⌝ }
 {
     let a = point(args, k);
@@ -32,7 +32,7 @@ pub fn quad(args: &[u32], k: usize) -> Quad
 }
 
 // The lens of the three words from k on.
-pub fn lens(args: &[u32], k: usize) -> Lens
+pub(crate) fn lens(args: &[u32], k: usize) -> Lens
     requires { ⌜ k ≤ 90 ⌝ }
 {
     Lens {

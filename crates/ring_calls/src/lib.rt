@@ -85,20 +85,23 @@ fn read(kind: u32, args: &[u32], gray: &[u8], w: usize, h: usize, out: &mut [u32
     requires { ⌜ Photo (now gray) w h ⌝ }
     requires { ⌜ 26 ≤ length (now args) ⌝ }
 {
-    let v = (args[3] % 256) as u8;
+    let v = args[3];
     if kind == 901 {
         return lumas(gray, w, h, transform_calls::map(&args[4..]), v, out);
+    }
+    if (Version::MAX as u32) < v {
+        return 0;
     }
     let g = Goal {
         quad: given::quad(args, 4),
         lens: given::lens(args, 12),
-        most: v,
+        most: v as u8,
         span: floats::at32(args, 15),
     };
     scored(gray, w, h, g, out)
 }
 
-fn lumas(gray: &[u8], w: usize, h: usize, t: Transform, v: u8, out: &mut [u32]) -> usize
+fn lumas(gray: &[u8], w: usize, h: usize, t: Transform, v: u32, out: &mut [u32]) -> usize
     requires { ⌜ Photo (now gray) w h ⌝ }
 {
     let VersionAnswer::Known(version) = Version::new(v) else {
@@ -112,10 +115,8 @@ fn lumas(gray: &[u8], w: usize, h: usize, t: Transform, v: u8, out: &mut [u32]) 
 
 fn scored(gray: &[u8], w: usize, h: usize, g: Goal, out: &mut [u32]) -> usize
     requires { ⌜ Photo (now gray) w h ⌝ }
+    requires { ⌜ g .most ≤ 64 ⌝ }
 {
-    if 64 < g.most {
-        return 0;
-    }
     let s = search::versions::run(gray, w, h, g);
     let list = s.scores;
     told::scored(list, out)

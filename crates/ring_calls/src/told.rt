@@ -15,7 +15,7 @@ pub fn put_map(t: Transform, out: &mut [u32], at: usize)
 }
 
 // 0, 1 and a transform.
-pub fn map(t: Transform, out: &mut [u32]) -> usize {
+pub(crate) fn map(t: Transform, out: &mut [u32]) -> usize {
     if out.len() < 24 {
         return 0;
     }
@@ -25,7 +25,7 @@ pub fn map(t: Transform, out: &mut [u32]) -> usize {
 }
 
 // 0 and numbers.
-pub fn numbers(list: &[f32], out: &mut [u32]) -> usize {
+pub(crate) fn numbers(list: &[f32], out: &mut [u32]) -> usize {
     if 1112 < list.len() {
         return 0;
     }
@@ -71,7 +71,7 @@ pub fn put_scores(s: Scores, out: &mut [u32], at: usize) -> usize
 }
 
 // 0 and scores.
-pub fn scored(s: Scores, out: &mut [u32]) -> usize {
+pub(crate) fn scored(s: Scores, out: &mut [u32]) -> usize {
     if out.len() < 258 {
         return 0;
     }

@@ -4,3 +4,4 @@ pub mod LumaLists
 pub mod Maps
 pub mod RingReads
 pub mod Searches
+pub mod Ends

@@ -4,16 +4,8 @@ use lens::straight::Lens;
 use transform::Mapped;
 use transform::Transform;
 ghost use mathlib.Core.Path.{_≡_};
-ghost use Rattle.lcr_core.specs.Version.{sideOf};
 ghost use Rattle.search.specs.Geometry.{ringNumbers, cornerNumbers, lensed, lensedMap};
 ghost use Rattle.search.specs.Geometry.{transformOf};
-
-// The side in cells of the version of this number.
-pub fn side_of(version: u8) -> u16
-    ensures { λ r. ⌜ r ≡ sideOf version ⌝ }
-{
-    17 + 4 * (version as u16)
-}
 
 // The corners of the ring's outer square in module space, x and y alternating: 3 cells out.
 fn ring_numbers(side: u16) -> [f32; 8]

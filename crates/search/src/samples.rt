@@ -79,7 +79,7 @@ fn sample_point(
 }
 
 // A sum with the five samples of a cell.
-pub fn sample_cell(gray: &[u8], w: usize, h: usize, t: Transform, cell: Cell, s: Sum) -> Sum
+pub(crate) fn sample_cell(gray: &[u8], w: usize, h: usize, t: Transform, cell: Cell, s: Sum) -> Sum
     requires { ⌜ Photo (now gray) w h ⌝ }
     requires { ⌜ NearCell cell ⌝ }
     ensures { λ r. ⌜ r ≡ sampleCell (now (gray .entry)) w h t cell s ⌝ }
@@ -92,7 +92,7 @@ pub fn sample_cell(gray: &[u8], w: usize, h: usize, t: Transform, cell: Cell, s:
 }
 
 // The mean of what was summed; a NaN where there was nothing.
-pub fn mean_of(s: Sum) -> f32
+pub(crate) fn mean_of(s: Sum) -> f32
     ensures { λ r. ⌜ r ≡ meanOf s ⌝ }
 {
     if 0.0 < s.n {

@@ -101,8 +101,8 @@ fn pose_of(version: u8, lumas: &[f32]) -> Best
 {
     let mut marks = mark_room();
     let n = lumas.len();
-    marks::classify::classify(version, lumas, &mut marks[..n]);
-    let c = marks::correlate::correlate(version, &marks[..n]);
+    marks::classify::classify(version as u32, lumas, &mut marks[..n]);
+    let c = marks::correlate::correlate(version as u32, &marks[..n]);
     c.best
 }
 
@@ -112,7 +112,7 @@ fn read_ring(gray: &[u8], w: usize, h: usize, t: Transform, version: u8) -> Scor
     requires { ⌜ IsVersion version ⌝ }
     ensures { λ r. ⌜ r ≡ readOf (now (gray .entry)) w h t version ⌝ }
 {
-    let VersionAnswer::Known(v) = Version::new(version) else {
+    let VersionAnswer::Known(v) = Version::new(version as u32) else {
         return no_score();
     };
     let mut lumas = luma_room();
@@ -155,7 +155,7 @@ fn push(s: Scores, x: Score) -> Scores
 fn too_small(span: f32, version: u8) -> bool
     ensures { λ r. ⌜ r ≡ tooSmall span version ⌝ }
 {
-    span / (crate::geometry::side_of(version) as f32 + 8.0) < 2.0
+    span / (Version::side_of(version) as f32 + 8.0) < 2.0
 }
 
 // The search ended.
@@ -179,7 +179,7 @@ fn tried(gray: &[u8], w: usize, h: usize, g: Goal, s: Search) -> Search
 {
     let scores = s.scores;
     let version = s.next;
-    let side = crate::geometry::side_of(version);
+    let side = Version::side_of(version);
     let Mapped::Some(t) = crate::geometry::ring_transform(g.quad, side, g.lens) else {
         return Search {
             next: version + 1,
@@ -196,7 +196,7 @@ fn tried(gray: &[u8], w: usize, h: usize, g: Goal, s: Search) -> Search
 }
 
 // One step: one version of the quad. A step on an ended search changes nothing.
-pub fn step(gray: &[u8], w: usize, h: usize, g: Goal, s: Search) -> Search
+fn step(gray: &[u8], w: usize, h: usize, g: Goal, s: Search) -> Search
     requires { ⌜ Photo (now gray) w h ⌝ }
     requires { ⌜ Held s ⌝ }
     requires { ⌜ g .most ≤ 64 ⌝ }
@@ -224,7 +224,7 @@ pub fn run(gray: &[u8], w: usize, h: usize, g: Goal) -> Search
 {
     let mut s = start();
     let mut k = 0usize;
-    while k < 65 {
+    while k <= Version::MAX as usize {
         if s.ended {
             return s;
         }

@@ -6,6 +6,7 @@ use lib.Ieee.{Float, nan, binary64, add, sub, mul, div, neg, lt, eq, ofBits}
 use Rattle.ieee.specs.Narrow.{narrow}
 use Rattle.ieee.specs.Ops.{abs}
 use Rattle.ieee.specs.Constants.{1e-9}
+use Rattle.laws.specs.Said.{Said, none, give}
 use Rattle.math.specs.Lists.{at}
 use Rattle.math.specs.Equations.{solution}
 use Rattle.math.specs.declared.Found.{Found}
@@ -69,6 +70,11 @@ fromSolution Solved x = Some (homography x)
 unfoldable pub fromQuad : List Float → List Float → Mapped
 unfolding matrix solution
 fromQuad s d = let r = solution 8 (matrix s d) (numbers d) in fromSolution (r .found) (r .x)
+
+-- what it says: the transform, or none
+abbrev pub mappedSaid : Mapped → Said Transform
+mappedSaid None = none
+mappedSaid (Some t) = give t
 
 -- ---- the lens
 -- the same coefficients with a lens

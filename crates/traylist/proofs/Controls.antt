@@ -4,7 +4,8 @@ use mathlib.Core.Path.{_≡_, refl}
 use mathlib.Core.List.{List, [], _∷_}
 use Prim.Native.Nat.{ℕ}
 use Rattle.hull.specs.Points.{numbersOf}
-use Rattle.listing.specs.Text.{spelt, decimal, spaced, lineOf, regionsWord, regionWord, outlineWord, quadWord}
+use Rattle.text.specs.Text.{spelt, decimal, spaced, lineOf, quadWord}
+use Rattle.listing.specs.Listing.{regionsWord, regionWord, outlineWord}
 use Rattle.listing.specs.Listing.{quadLine, textBy, textOf}
 
 -- regions 1 1

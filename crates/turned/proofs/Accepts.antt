@@ -30,11 +30,10 @@ use Rattle.regions.specs.declared.answer.Kept.{Kept}
 use Rattle.regions.specs.declared.answer.Region.{Region}
 use Rattle.regions.proofs.Regions.{region-cell, region-in}
 use Rattle.outline.specs.Door.{checkOutline}
-use Rattle.turned.specs.Claims.{Taken, NoTies}
-use Rattle.turned.specs.Doors.{Pictured, regionOf, checkedFor}
+use Rattle.turned.specs.Claims.{Taken}
+use Rattle.turned.specs.Calls.{Pictured, regionOf, checkedFor}
 use Rattle.turned.specs.Accepts.{DoorsAccept}
 use Rattle.turned.proofs.Calls.{regions-is, region-is, grid-room, label-room}
-use Rattle.turned.proofs.Turned.{untied}
 
 -- ---- the picture door
 
@@ -86,15 +85,15 @@ byte-at m w h s many bytes x y lx ly =
 moved-taken : (W H : ℕ) (s : List ℕ) → Taken W H s → (m : Move) → Taken (wideOf m W H) (highOf m W H) (movedBytes m (16 * W) (16 * H) s)
 moved-taken W H s t m =
     let sides = sides-times m 16 W H in
-    let r = within m W H 64 (t .wide, (let a = t .wide-most in omega arith)) (t .high, (let a = t .high-most in omega arith)) in
+    let r = within m (16 * W) (16 * H) _ ((let a = t .wide in omega arith), t .wide-most) ((let a = t .high in omega arith), t .high-most) in
     let w′ = wideOf m (16 * W) (16 * H) in
     let h′ = highOf m (16 * W) (16 * H) in
     let n = length-drawn w′ h′ (moved m (16 * W) (16 * H) (plane (16 * W) s)) in
     record {
-      wide = r .0;
-      wide-most = omega (arith, r .1);
-      high = r .2;
-      high-most = omega (arith, r .3);
+      wide = omega (arith, r .0, sides .0);
+      wide-most = omega (arith, r .1, sides .0);
+      high = omega (arith, r .2, sides .1);
+      high-most = omega (arith, r .3, sides .1);
       many = n ∙ ap₂ (λ (a b : ℕ). a * b) (sides .0) (sides .1);
       bytes = λ i l.
           let k : i < w′ * h′ = subst (λ (z : ℕ). i < z) n l in
@@ -104,11 +103,6 @@ moved-taken W H s t m =
     }
 
 -- ---- the outline door
-
--- the picture itself is the moved one, where the move is none
-unmoved : (w h : ℕ) (p : Plane) (x y : ℕ) → p x y ≡ moved still w h p x y
-unfolding moved
-unmoved w h p x y = refl
 
 -- a box that is not empty, in a picture
 record Inside (r : Region) (w h : ℕ) : Type 0 where
@@ -146,12 +140,12 @@ checked W H s t c r room at fit =
       le-leb (4 * (r .x1 - r .x0 + (r .y1 - r .y0))) room fit,
     )
 
-outlines : (W H : ℕ) (s : List ℕ) → Taken W H s → NoTies (plane (16 * W) s) (16 * W) (16 * H) → (c : Pictured s (16 * W) (16 * H))
-    → (i room : ℕ) → i < c .answer .regions .kept
+outlines : (W H : ℕ) (s : List ℕ) → Taken W H s → (c : Pictured s (16 * W) (16 * H)) (i room : ℕ)
+    → i < c .answer .regions .kept
     → 4 * (regionOf s (16 * W) (16 * H) c i .x1 - regionOf s (16 * W) (16 * H) c i .x0
     + (regionOf s (16 * W) (16 * H) c i .y1 - regionOf s (16 * W) (16 * H) c i .y0)) ≤ room
     → checkedFor s (16 * W) (16 * H) c (regionOf s (16 * W) (16 * H) c i) room ≡ 0
-outlines W H s t ties c i room l fit =
+outlines W H s t c i room l fit =
     let w = 16 * W in
     let h = 16 * H in
     let p = plane w s in
@@ -161,7 +155,7 @@ outlines W H s t ties c i room l fit =
     let e = t .high-most in
     let k : i < keptCount p w h =
     subst (λ (n : ℕ). i < n) (ap (λ (z : Kept). z .kept) (regions-is s w h c) ∙ unfold keptRegions in refl) l in
-    let z = region-cell still W H a d p p (λ x y lx ly. unmoved w h p x y) (untied p w h ties) i k in
+    let z = region-cell p w h i k in
     let r = region-in p w h (keptLabel p w h i) (omega arith) (z .0) (z .1) (z .2) in
     checked W H s t c (regionOf s w h c i) room (subst (λ (q : Region). Inside q w h) (sym (region-is s w h c i k)) (inside p w h i r)) fit
 

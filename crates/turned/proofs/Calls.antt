@@ -43,7 +43,7 @@ use Rattle.outline.specs.Door.{boxAt, doorPoints, answered, listAfter}
 use Rattle.outline.specs.declared.Answer.{Answer}
 use Rattle.outline.specs.declared.Answer.the-variants.{Points, Refused}
 use Rattle.outline.proofs.Writes.{length-floats}
-use Rattle.turned.specs.Doors.{Pictured, regionOf, checkedFor, pointsFor, Outlined, listed}
+use Rattle.turned.specs.Calls.{Pictured, regionOf, checkedFor, pointsFor, Outlined, listed}
 
 -- ---- the picture door
 

@@ -6,6 +6,7 @@ use mathlib.Core.List.{List, []}
 use Prim.Native.Nat.{ℕ, zero, suc, _+_, _*_, _/_, _<_, _≤_}
 use native.Mathlib.Omega.{arith}
 use lib.Dec.{ltb}
+use lib.Ieee.{Float}
 use lib.ListN.{length}
 use Rattle.laws.specs.Plane.{Plane, plane, Alike}
 use Rattle.laws.specs.Move.{Move, wideOf, highOf, moved, placeOf, Box, boxOf, movedBytes}
@@ -13,15 +14,15 @@ use Rattle.laws.proofs.Planes.{plane-drawn}
 use Rattle.laws.proofs.Moves.{place-within, sides-times}
 use Rattle.levels.specs.Level.{cells, level, inkOf, inkAt}
 use Rattle.regions.specs.Labels.{label}
-use Rattle.regions.specs.Cells.{cells8, cell, inkCell, cellLabel, labelAt}
+use Rattle.regions.specs.Cells.{cells8, cell, inkCell, cellLabel, labelAt, groupsOf}
 use Rattle.regions.specs.Kept.{keptCount, keptLabel}
 use Rattle.regions.specs.Boxes.{regionBox}
 use Rattle.regions.specs.Door.{region, keptRegions}
 use Rattle.regions.specs.declared.answer.Kept.{Kept}
 use Rattle.regions.specs.declared.answer.Region.{Region}
 use Rattle.hull.specs.Points.{floatsOf}
-use Rattle.hull.specs.Hull.{hullPoints, hullFloats}
-use Rattle.hull.specs.Quad.{quadPoints, quadFloats}
+use Rattle.hull.specs.Hull.{hullPoints}
+use Rattle.hull.specs.Quad.{quadPoints, quadFloats, valuesOf}
 use Rattle.boundary.specs.Boundary.{outlineOf}
 use Rattle.boundary.proofs.Boundary.{Within, box-within}
 use Rattle.boundary.proofs.Points.{region-within}
@@ -39,8 +40,10 @@ use Rattle.turned.specs.Claims.{
   SameHull,
   SameQuad,
 }
-use Rattle.turned.specs.Doors.{Pictured, regionOf, pointsFor, Outlined, listed, OutlinesAlike, RegionsAlike, DoorsAlike, DoorsMoved}
-use Rattle.turned.proofs.Floats.{hull-floats, quad-floats}
+use Rattle.turned.specs.Calls.{Pictured, regionOf, pointsFor, Outlined, listed, HullCall, verticesOf, QuadCall}
+use Rattle.turned.specs.Doors.{OutlinesAlike, RegionsAlike, DoorsAlike, PictureDoorsMoved, DoorsMoved}
+use Rattle.turned.proofs.Floats.{quad-floats}
+use Rattle.turned.proofs.Answers.{count-is, vertices-is, as-many, none-both, marks-moved}
 use Rattle.turned.proofs.Calls.{regions-is, grid-at, label-at, region-is, points-is, listed-is}
 use Rattle.turned.proofs.Turned.{untied, moved-is}
 
@@ -68,6 +71,10 @@ some-label p w h x y l = go (inkCell p w h (cell (cells8 w) x y)) refl
 swap : (a b c d a′ b′ c′ d′ : ℕ) → a ≡ a′ → b ≡ b′ → c ≡ c′ → d ≡ d′ → (a′ ≡ b′) ↔ (c′ ≡ d′) → (a ≡ b) ↔ (c ≡ d)
 swap a b c d a′ b′ c′ d′ ea eb ec ed f =
     (λ e. ec ∙ f .0 (sym ea ∙ e ∙ eb) ∙ sym ed, λ e. ea ∙ f .1 (sym ec ∙ e ∙ ed) ∙ sym eb)
+
+-- how many regions were answered in all
+all-is : (s : List ℕ) (w h : ℕ) (c : Pictured s w h) → c .answer .regions .all ≡ groupsOf (plane w s) w h
+all-is s w h c = ap (λ (k : Kept). k .all) (regions-is s w h c) ∙ unfold keptRegions in refl
 
 module _ (m : Move) (W H : ℕ) (s : List ℕ) (c : Pictured s (16 * W) (16 * H)) (s′ : List ℕ)
     (c′ : Pictured s′ (wideOf m (16 * W) (16 * H)) (highOf m (16 * W) (16 * H))) (t : Taken W H s)
@@ -212,28 +219,49 @@ module _ (m : Move) (W H : ℕ) (s : List ℕ) (c : Pictured s (16 * W) (16 * H)
       stored′ : listed (o′ .answer) (o′ .list) ≡ floatsOf L′
       stored′ = listed-is s′ w′ h′ c′ (regionOf s′ w′ h′ c′ i) o′ ∙ ap floatsOf (points-is s′ w′ h′ c′ i l′ within′)
 
-      hulled : hullFloats (listed (o .answer) (o .list)) ≡ floatsOf (hullPoints L)
-      hulled = ap hullFloats stored ∙ hull-floats L
+      abbrev n : List Float
+      n = listed (o .answer) (o .list)
 
-      hulled′ : hullFloats (listed (o′ .answer) (o′ .list)) ≡ floatsOf (hullPoints L′)
-      hulled′ = ap hullFloats stored′ ∙ hull-floats L′
+      abbrev n′ : List Float
+      n′ = listed (o′ .answer) (o′ .list)
 
-      outlines : OutlinesAlike m w h (listed (o .answer) (o .list)) (listed (o′ .answer) (o′ .list))
-      unfolding SamePoints SameHull SameQuad
-      outlines = record {
-        points = L;
-        points′ = L′;
-        vertices = hullPoints L;
-        vertices′ = hullPoints L′;
-        corners = quadPoints (hullPoints L);
-        corners′ = quadPoints (hullPoints L′);
-        stored = (stored, stored′);
-        hulled = (hulled, hulled′);
-        cornered = (ap quadFloats hulled ∙ quad-floats (hullPoints L), ap quadFloats hulled′ ∙ quad-floats (hullPoints L′));
-        boundary = claim .boundary i l;
-        hull = claim .hulls i l;
-        quad = claim .quads i l;
-      }
+      module _ (k : HullCall n) (k′ : HullCall n′) (q : QuadCall (verticesOf n k)) (q′ : QuadCall (verticesOf n′ k′)) where
+        abbrev K : List (ℕ × ℕ)
+        K = hullPoints L
+
+        abbrev K′ : List (ℕ × ℕ)
+        K′ = hullPoints L′
+
+        cornered : valuesOf (q .answer) ≡ floatsOf (quadPoints K)
+        cornered = q .answer-is ∙ ap quadFloats (vertices-is L n stored k) ∙ quad-floats K
+
+        cornered′ : valuesOf (q′ .answer) ≡ floatsOf (quadPoints K′)
+        cornered′ = q′ .answer-is ∙ ap quadFloats (vertices-is L′ n′ stored′ k′) ∙ quad-floats K′
+
+        outlines : OutlinesAlike m w h n n′ k k′ q q′
+        unfolding SamePoints SameHull SameQuad
+        outlines = record {
+          points = L;
+          points′ = L′;
+          vertices = K;
+          vertices′ = K′;
+          corners = quadPoints K;
+          corners′ = quadPoints K′;
+          stored = (stored, stored′);
+          hulled = (vertices-is L n stored k, vertices-is L′ n′ stored′ k′);
+          cornered = (cornered, cornered′);
+          boundary = claim .boundary i l;
+          count = count-is L′ n′ stored′ k′ ∙ as-many m w h K K′ (claim .hulls i l .0) ∙ sym (count-is L n stored k);
+          hull = claim .hulls i l;
+          quad =
+              λ a b far one other.
+              let r = claim .quads i l a b far one other in (
+                r .0,
+                r .1,
+                none-both (q .answer) (q′ .answer) (quadPoints K) (quadPoints K′) cornered cornered′
+                    (as-many m w h (quadPoints K) (quadPoints K′) (r .0)),
+              );
+        }
 
   pub alike : DoorsAlike m W H s c s′ c′
   alike = record {
@@ -241,13 +269,17 @@ module _ (m : Move) (W H : ℕ) (s : List ℕ) (c : Pictured s (16 * W) (16 * H)
     ink = ink;
     unlabelled = unlabelled;
     groups = groups;
+    all = all-is s′ w′ h′ c′ ∙ claim .many ∙ sym (all-is s w h c);
     kept = kept-is′ ∙ claim .kept ∙ sym kept-is;
     regions = λ i l. regions i (subst (λ (n : ℕ). i < n) kept-is l);
     outlines = λ i l. outlines i (subst (λ (n : ℕ). i < n) kept-is l);
   }
 
-pub doors-moved : DoorsMoved
-unfolding DoorsMoved
-doors-moved W H s t ties m c c′ =
+pictures-moved : PictureDoorsMoved
+unfolding PictureDoorsMoved
+pictures-moved W H s t ties m c c′ =
     alike m W H s c (movedBytes m (16 * W) (16 * H) s) c′ t ties
     (plane-drawn (wideOf m (16 * W) (16 * H)) (highOf m (16 * W) (16 * H)) (moved m (16 * W) (16 * H) (plane (16 * W) s)) [])
+
+pub doors-moved : DoorsMoved
+doors-moved = record { pictures = pictures-moved; marks = marks-moved }

@@ -1,7 +1,7 @@
 -- Points in doubled coordinates and the f32 numbers that stand for them.
 --     x-any, y-any       coordinates by number, past the list's end too
 --     points-floats      the numbers of points chosen by number
---     hull-floats        the hull of the numbers has the numbers of the hull;  quad-floats  and so has the quad
+--     many-floats        as many points;  hull-floats        the hull of the numbers has the numbers of the hull;  quad-floats  and so has the quad
 -- Assumes nothing.
 use mathlib.Core.Path.{_≡_, refl, sym, ap, ap₂, _∙_}
 use mathlib.Core.List.{List, [], _∷_, map}
@@ -46,7 +46,7 @@ points-floats L (i ∷ is) = step (points-floats L is)
         unfold pointsAt floatsOf numbersOf in
         ap₂ (λ (x : Float) (l : List Float). x ∷ l) (x-any L i) (ap₂ (λ (y : Float) (l : List Float). y ∷ l) (y-any L i) e)
 
-many-floats : (L : List (ℕ × ℕ)) → many (floatsOf L) ≡ length L
+pub many-floats : (L : List (ℕ × ℕ)) → many (floatsOf L) ≡ length L
 many-floats L = let e = length-floats L in omega arith
 
 pub hull-floats : (L : List (ℕ × ℕ)) → hullFloats (floatsOf L) ≡ floatsOf (hullPoints L)

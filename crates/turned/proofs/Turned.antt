@@ -15,9 +15,9 @@ use Rattle.regions.specs.Cells.{groupsOf, groupSize}
 use Rattle.regions.specs.Kept.{want, keptCount, keptCells}
 use Rattle.regions.proofs.Pictures.{cell-ink-of, groups-of}
 use Rattle.regions.proofs.Kept.{Untied}
-use Rattle.regions.proofs.Regions.{kept-count-of, region-of, size-of, box-of}
+use Rattle.regions.proofs.Regions.{group-count-of, kept-count-of, region-of, size-of, box-of}
 use Rattle.boundary.proofs.Points.{points-of}
-use Rattle.boundary.proofs.Outlines.{hull-of, hull-once, hull-starts, quad-of}
+use Rattle.boundary.proofs.Outlines.{hull-of, hull-once, hull-starts, quad-of, quad-round-of}
 use Rattle.marks.proofs.PosesMoved.{poses-moved}
 use Rattle.turned.specs.Claims.{
   Taken,
@@ -52,6 +52,7 @@ module _ (m : Move) (W H : ℕ) (p p′ : Plane) (posW : 0 < W) (posH : 0 < H) (
     ink = ink-of m W H p p′ same;
     inkCells = cell-ink-of m W H p p′ same;
     groups = groups-of m W H posW posH p p′ same;
+    many = group-count-of m W H posW posH p p′ same;
     kept = kept-count-of m W H posW posH p p′ same;
     regions = λ i l. (
       region-of m W H posW posH p p′ same u i l,
@@ -62,7 +63,10 @@ module _ (m : Move) (W H : ℕ) (p p′ : Plane) (posW : 0 < W) (posH : 0 < H) (
     hulls = λ i l.
         let o = hull-once m W H posW posH lessW lessH p p′ same u i l 4 in
         (hull-of m W H posW posH lessW lessH p p′ same u i l 4, o .0, o .1, hull-starts m W H posW posH lessW lessH p p′ same u i l 4);
-    quads = λ i l. quad-of m W H posW posH lessW lessH p p′ same u i l 4;
+    quads = λ i l a b far one other. (
+      quad-of m W H posW posH lessW lessH p p′ same u i l 4 a b far one other,
+      quad-round-of m W H posW posH lessW lessH p p′ same u i l 4,
+    );
   }
 
 pictures-moved : PicturesMoved

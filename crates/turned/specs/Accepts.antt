@@ -4,13 +4,12 @@ use mathlib.Core.Path.{_≡_}
 use mathlib.Core.List.{List}
 use Prim.Native.Nat.{ℕ, _+_, _-_, _*_, _<_, _≤_}
 use lib.ListN.{length}
-use Rattle.laws.specs.Plane.{plane}
 use Rattle.laws.specs.Move.{Move, wideOf, highOf, movedBytes}
 use Rattle.levels.specs.Level.{cells}
 use Rattle.regions.specs.Cells.{cellsOf}
 use Rattle.regions.specs.Door.{checkGrids}
-use Rattle.turned.specs.Claims.{Taken, NoTies}
-use Rattle.turned.specs.Doors.{Pictured, regionOf, checkedFor}
+use Rattle.turned.specs.Claims.{Taken}
+use Rattle.turned.specs.Calls.{Pictured, regionOf, checkedFor}
 
 pub record DoorsAccept : Type 0 where
   -- The moved picture is taken, with the moved sides: these are 16 times those of the level cells.
@@ -22,8 +21,8 @@ pub record DoorsAccept : Type 0 where
       → cells (16 * W) * cells (16 * H) ≤ grid → cellsOf (16 * W) (16 * H) ≤ labels → cellsOf (16 * W) (16 * H) ≤ stack
       → checkGrids (16 * W) (16 * H) (length s) grid labels stack ≡ 0
   -- Nor does one of the outline door, for a region that was answered.
-  pub outline : (W H : ℕ) (s : List ℕ) → Taken W H s → NoTies (plane (16 * W) s) (16 * W) (16 * H) → (c : Pictured s (16 * W) (16 * H))
-      → (i room : ℕ) → i < c .answer .regions .kept
+  pub outline : (W H : ℕ) (s : List ℕ) → Taken W H s → (c : Pictured s (16 * W) (16 * H)) (i room : ℕ)
+      → i < c .answer .regions .kept
       → 4 * (regionOf s (16 * W) (16 * H) c i .x1 - regionOf s (16 * W) (16 * H) c i .x0
       + (regionOf s (16 * W) (16 * H) c i .y1 - regionOf s (16 * W) (16 * H) c i .y0)) ≤ room
       → checkedFor s (16 * W) (16 * H) c (regionOf s (16 * W) (16 * H) c i) room ≡ 0

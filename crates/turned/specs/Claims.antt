@@ -89,7 +89,7 @@ module _ (m : Move) (W H : ℕ) (p p′ : Plane) where
       × (regionBox p′ w′ h′ (keptLabel p′ w′ h′ i) ≡ boxOf m w h (regionBox p w h (keptLabel p w h i)))
       × (keptCells p′ w′ h′ i ≡ keptCells p w h i)
 
-  -- The boundary points of the i-th kept region of each picture, with runs of 4 or more, and the hulls of these.
+  -- The boundary points of the i-th kept region of each picture, with runs of 4 or more, the hulls of these, and their quads.
   abbrev pub points : ℕ → List (ℕ × ℕ)
   points i = outlineOf 4 p w h (keptLabel p w h i)
 
@@ -102,6 +102,12 @@ module _ (m : Move) (W H : ℕ) (p p′ : Plane) where
   abbrev pub hull′ : ℕ → List Pt
   hull′ i = ptsOf (hullPoints (points′ i))
 
+  abbrev pub quad : ℕ → List Pt
+  quad i = ptsOf (quadPoints (hullPoints (points i)))
+
+  abbrev pub quad′ : ℕ → List Pt
+  quad′ i = ptsOf (quadPoints (hullPoints (points′ i)))
+
   -- "A point is among its boundary points as often as the point moved there was among those of the first picture's i-th"
   unfoldable pub SamePoints : ℕ → Type 0
   SamePoints i = (q : Pt) → often (pointOf m w h q) (ptsOf (points′ i)) ≡ often q (ptsOf (points i))
@@ -113,16 +119,18 @@ module _ (m : Move) (W H : ℕ) (p p′ : Plane) where
 
   -- "Where, besides, exactly one pair of a region's hull vertices is farthest apart, and at most one vertex lies farthest out on each
   -- side of it, its quad is none in both or has the same corners, moved alike, clockwise from some corner." None is the empty list,
-  -- which is no other list turned round.
+  -- which is no other list turned round; corners are clockwise as a hull's vertices are.
   unfoldable pub SameQuad : ℕ → Type 0
   SameQuad i = (a b : Pt) → Far (hull i) a b → OneTop (hull i) a b → OneTop (hull i) b a
-      → Rot (movedRound m w h (ptsOf (quadPoints (hullPoints (points i))))) (ptsOf (quadPoints (hullPoints (points′ i))))
+      → Rot (movedRound m w h (quad i)) (quad′ i) × Clockwise (quad′ i)
 
   pub record Moved : Type 0 where
     pub thresholds : SameThresholds
     pub ink : SameInk
     pub inkCells : SameInkCells
     pub groups : SameGroups
+    -- "the groups are the moved groups": there are no others
+    pub many : groupsOf p′ w′ h′ ≡ groupsOf p w h
     -- "As many regions are kept", and of each of them:
     pub kept : keptCount p′ w′ h′ ≡ keptCount p w h
     pub regions : (i : ℕ) → i < keptCount p w h → SameRegion i

@@ -13,8 +13,8 @@ use Rattle.whole.proofs.Sums.{⊕-𝟘, 𝟘-⊕, ⊗-𝟘, 𝟘-⊗, �
 use Rattle.whole.proofs.Ring.{Expr, 𝕧, 𝕜, _:+_, _:-_, _:*_, :n, solve}
 use Rattle.whole.proofs.Ord.{pn, nn+, pn+, np+, nn*, pp*, p0, nn≡, pp≡, z0, p1, above1, pnn, anti, nsplit, cmp, divN, divP}
 use Rattle.whole.specs.Points.{Pt, cross, d2, Mem}
+use Rattle.whole.specs.IsHull.{dot, Side}
 use Rattle.whole.proofs.Turns.{
-  dot,
   lin,
   X,
   Y,
@@ -37,9 +37,7 @@ use Rattle.whole.proofs.Turns.{
   lin-self,
 }
 
-unfoldable pub Side : Pt → Pt → Pt → Type 0
-Side a b p = NN (cross a b p) × (cross a b p ≡ 𝟘 → NN (neg (dot p a b)))
-
+-- every point lies on the right side of a b or between a and b
 unfoldable pub Edge : List Pt → Pt → Pt → Type 0
 Edge P a b = (p : Pt) → Mem p P → Side a b p
 

@@ -1,36 +1,21 @@
--- What the hull is: `hull-is`. Its vertices are points, no two equal, clockwise; every point lies on or inside it; and no vertex lies on or
--- inside the hull of the others. Assumes nothing.
+-- The walk gives the hull, of every list of points: `hull-is`. Assumes nothing.
 use mathlib.Core.Path.{_≡_, refl, sym, ap, subst}
 use mathlib.Core.List.{List, [], _∷_, _++_, append-nil, List·Memᴰ·head, List·Memᴰ·tail, Memᴰ·cast, Memᴰ·append-right}
 use Prim.Native.Nat.{_<_}
+use native.Mathlib.Omega.{arith}
 use lib.ListN.{length}
 use Rattle.whole.specs.Numbers.{neg, PP}
 use Rattle.whole.proofs.Ring.{solve}
 use Rattle.whole.proofs.Ord.{nn≡, pp≡, pnn, anti}
 use Rattle.whole.specs.Points.{Pt, cross, d2, Mem, ptAt, NoDup, Fan, Clockwise}
-use Rattle.whole.proofs.Turns.{dot, S, D, env, cyc, swap, cross-l, d2-0, d2N}
-use Rattle.whole.proofs.Edge.{Side, Edge}
+use Rattle.whole.proofs.Turns.{S, D, env, cyc, swap, cross-l, d2-0, d2N}
+use Rattle.whole.specs.IsHull.{dot, Side, Along, Inside, IsHull}
+use Rattle.whole.proofs.Edge.{Edge}
 use Rattle.whole.proofs.Run.{Run}
 use Rattle.whole.proofs.Closed.{run-mem, run-clockwise}
-use Rattle.whole.specs.Hull.{hull, startOf}
-use Rattle.whole.proofs.Hulls.{hull-run, start-mem, start-ext}
+use Rattle.whole.specs.Hull.{walk, hull, startOf}
+use Rattle.whole.proofs.Hulls.{hull-run, start-least, start-mem, start-ext}
 use Rattle.whole.proofs.Moved.{closed-nodup}
-
--- p lies on or inside the outline a, vs, back to z
-abbrev pub Along : Pt → Pt → List Pt → Pt → Type 0
-Along p a [] z = Side a z p
-Along p a (b ∷ bs) z = Side a b p × Along p b bs z
-
-abbrev pub Inside : Pt → List Pt → Type 0
-Inside p [] = ⊥
-Inside p (a ∷ vs) = Along p a vs a
-
-pub record IsHull (P vs : List Pt) : Type 0 where
-  pub points : (v : Pt) → Mem v vs → Mem v P
-  pub distinct : NoDup vs
-  pub clockwise : Clockwise vs
-  pub holds : (p : Pt) → Mem p P → Inside p vs
-  pub needed : (xs : List Pt) (v : Pt) (ys : List Pt) → vs ≡ xs ++ v ∷ ys → ¬ Inside v (xs ++ ys)
 
 run-along : (P : List Pt) (p : Pt) → Mem p P → (a : Pt) (vs : List Pt) (z : Pt) → Run P a vs z → Along p a vs z
 unfolding Edge
@@ -94,8 +79,8 @@ need vs d c xs v ys e i = go xs ys (subst NoDup e d) (subst Clockwise e c) i
         i' = subst (λ l. Along v a l a) (append-nil (a' ∷ xs)) i
     go (a ∷ xs) (b ∷ bs) d c i = wrong (lastOf a xs) v b (clock-mid a xs v b bs c) (along-mid v a xs b bs a i)
 
-pub hull-is : (P : List Pt) → 0 < length P → IsHull P (hull P)
-hull-is P some =
+some-hull : (P : List Pt) → 0 < length P → IsHull P (hull P)
+some-hull P some =
     let h = hull-run P some in
     let s : Pt = ptAt P (startOf P) in
     let d : NoDup (s ∷ h .0) = closed-nodup P s (h .0) (start-mem P some) (h .2) (h .3) in
@@ -104,6 +89,7 @@ hull-is P some =
       points = λ v m. mem s (h .0) (start-mem P some) (λ q t. run-mem P s (h .0) s (h .2) q t) v m;
       distinct = d;
       clockwise = c;
+      starts = start-least P some;
       holds = λ p m. run-along P p m s (h .0) s (h .2);
       needed = need (s ∷ h .0) d c;
     }
@@ -111,3 +97,17 @@ hull-is P some =
     mem : (s : Pt) (vs : List Pt) → Mem s P → ((q : Pt) → Mem q vs → Mem q P) → (v : Pt) → Mem v (s ∷ vs) → Mem v P
     mem s vs ms h v (List·Memᴰ·head e) = Memᴰ·cast e ms
     mem s vs ms h v (List·Memᴰ·tail t) = h v t
+
+no-hull : IsHull [] []
+no-hull = record {
+  points = λ v m. m;
+  distinct = tt;
+  clockwise = tt;
+  starts = tt;
+  holds = λ p m. elim m [ ];
+  needed = need [] tt tt;
+}
+
+pub hull-is : (P : List Pt) → IsHull P (hull P)
+hull-is [] = unfold hull walk in no-hull
+hull-is (p ∷ P) = some-hull (p ∷ P) (omega arith)

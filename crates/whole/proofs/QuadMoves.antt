@@ -10,7 +10,8 @@ use lib.ListN.{length}
 use Rattle.whole.specs.Numbers.{_⊕_, neg, NN, PP}
 use Rattle.whole.proofs.Ord.{nn≡, pp≡, pnn}
 use Rattle.whole.specs.Points.{Pt, cross, d2, Mem, Rot}
-use Rattle.whole.proofs.Turns.{dot, rot2}
+use Rattle.whole.specs.IsHull.{dot}
+use Rattle.whole.proofs.Turns.{rot2}
 use Rattle.whole.proofs.Edge.{d2-dot}
 use Rattle.whole.proofs.Moved.{Keeps, Flips, mem-map, of-map, inj}
 use Rattle.whole.specs.Moves.{Same}

@@ -1,6 +1,7 @@
 -- The quad of a hull: the farthest pair, and the farthest on either side of it.
 --     amax-ok                        the first greatest of a list
 --     Corners, corners-ok            what the four corners are, or why there are none
+--     pair-mem, pair-has             the pairs of a list
 --     far-found                      where one pair is farthest, the search finds it
 --     corners-yes, corners-no-..     the corners from what the two scans found
 -- Assumes nothing.
@@ -166,7 +167,7 @@ corners-ok a b H = go (isNeg (neg (c .1))) (isNeg (neg (d .1))) (isNeg (area a (
         fin false ew tc td = absurd (mathlib.Core.Bool.false≢true (sym ew ∙ is-neg _ (neg-area (c .0) (d .0) (tc .1 .0) (td .1 .0))))
 
 -- ---- the farthest pair
-pair-mem : (H : List Pt) (q : Pt × Pt) → List·Memᴰ q (pairs H) → Mem (q .0) H × Mem (q .1) H
+pub pair-mem : (H : List Pt) (q : Pt × Pt) → List·Memᴰ q (pairs H) → Mem (q .0) H × Mem (q .1) H
 pair-mem [] q m = elim m [ ]
 pair-mem (a ∷ l) q m = go (List·Memᴰ·append-cases (map (λ b. (a, b)) l) m) (λ t. pair-mem l q t)
   where
@@ -184,7 +185,7 @@ map-mem : (a : Pt) (l : List Pt) (b : Pt) → Mem b l → List·Memᴰ {A = Pt �
 map-mem a l b (List·Memᴰ·head e) = List·Memᴰ·head (ap (λ t. (a, t)) e)
 map-mem a l b (List·Memᴰ·tail {xs = xs} t) = List·Memᴰ·tail (map-mem a xs b t)
 
-pair-has : (H : List Pt) (u w : Pt) → Mem u H → Mem w H → u ≢ w
+pub pair-has : (H : List Pt) (u w : Pt) → Mem u H → Mem w H → u ≢ w
     → List·Memᴰ {A = Pt × Pt} (u, w) (pairs H) ⊎ List·Memᴰ {A = Pt × Pt} (w, u) (pairs H)
 pair-has [] u w mu mw n = elim mu [ ]
 pair-has (a ∷ l) u w (List·Memᴰ·head e) (List·Memᴰ·head e') n = absurd (n (e ∙ sym e'))

@@ -18,10 +18,6 @@ use Rattle.whole.specs.Points.{Pt, cross, d2}
 pub pt≡ : (a b : Pt) → a .x ≡ b .x → a .y ≡ b .y → a ≡ b
 pt≡ a b p q = λ i. record { x = p i; y = q i }
 
--- (a − o) · (b − o)
-unfoldable pub dot : Pt → Pt → Pt → ℤ
-dot o a b = (a .x ⊕ neg (o .x)) ⊗ (b .x ⊕ neg (o .x)) ⊕ (a .y ⊕ neg (o .y)) ⊗ (b .y ⊕ neg (o .y))
-
 -- f · (p − c)
 unfoldable pub lin : Pt → Pt → Pt → ℤ
 lin f c p = f .x ⊗ (p .x ⊕ neg (c .x)) ⊕ f .y ⊗ (p .y ⊕ neg (c .y))
@@ -107,7 +103,7 @@ Ge c a b = NN (cross c a b) × (cross c a b ≡ 𝟘 → NN (d2 c a ⊕ neg (d2 
 abbrev pub At : Pt → Pt → Pt → Type 0
 At f c p = (p ≡ c) ⊎ PP (lin f c p)
 
-less0 : (a : ℤ) → a ⊕ neg 𝟘 ≡ a
+pub less0 : (a : ℤ) → a ⊕ neg 𝟘 ≡ a
 unfolding 𝟘
 less0 a = solve (a ∷ []) (𝕧 0 :- 𝕜 (pos 0)) (𝕧 0) refl
 

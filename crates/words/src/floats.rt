@@ -1,9 +1,13 @@
 // Floats of calls: an f32 from its word, an f64 from its two words, low half first, and back. Any
 // NaN pattern is read as a NaN, and a NaN is written as 0x7fc0_0000 or 0x7ff8_0000_0000_0000.
+ghost use mathlib.Core.Path.{_≡_};
 ghost use Prim.Native.Nat.{_<_};
+ghost use lib.Ieee.{binary32, binary64, ofBits, toBits};
 
 // The f32 whose bits are given.
-pub fn f32_of(word: u32) -> f32 {
+pub fn f32_of(word: u32) -> f32
+    ensures { λ r. ⌜ r ≡ ofBits binary32 word ⌝ }
+{
     if 0x7f80_0000 < word % 0x8000_0000 {
         return 0.0 / 0.0;
     }
@@ -11,7 +15,9 @@ pub fn f32_of(word: u32) -> f32 {
 }
 
 // The bits of an f32.
-pub fn bits32(x: f32) -> u32 {
+pub fn bits32(x: f32) -> u32
+    ensures { λ r. ⌜ r ≡ toBits binary32 x ⌝ }
+{
     if x != x {
         return 0x7fc0_0000;
     }
@@ -19,7 +25,7 @@ pub fn bits32(x: f32) -> u32 {
 }
 
 // The f64 whose bits are given.
-pub fn f64_of(bits: u64) -> f64 {
+fn f64_of(bits: u64) -> f64 {
     if 0x7ff0_0000_0000_0000 < bits % 0x8000_0000_0000_0000 {
         return 0.0 / 0.0;
     }
@@ -27,7 +33,9 @@ pub fn f64_of(bits: u64) -> f64 {
 }
 
 // The bits of an f64.
-pub fn bits64(x: f64) -> u64 {
+pub fn bits64(x: f64) -> u64
+    ensures { λ r. ⌜ r ≡ toBits binary64 x ⌝ }
+{
     if x != x {
         return 0x7ff8_0000_0000_0000;
     }
@@ -76,7 +84,7 @@ pub fn put32(out: &mut [u32], k: usize, x: f32) {
 }
 
 // Writes an f64 as the k-th pair of some words, where there is one.
-pub fn put64(out: &mut [u32], k: usize, x: f64) {
+fn put64(out: &mut [u32], k: usize, x: f64) {
     if k < out.len() / 2 {
         let b = bits64(x);
         out[2 * k] = (b % 4294967296) as u32;

@@ -1,7 +1,8 @@
 // Words of calls: numbers from words and words from numbers, and answers of a few words.
 pub mod floats;
 
-ghost use Prim.Native.Nat.{_≤_};
+ghost use mathlib.Core.Path.{_≡_};
+ghost use Prim.Native.Nat.{_<_, _≤_};
 
 // The number whose low and high halves are given.
 pub fn wide(low: u32, high: u32) -> u64 {
@@ -9,7 +10,9 @@ pub fn wide(low: u32, high: u32) -> u64 {
 }
 
 // A word as a number of things.
-pub fn many(word: u32) -> usize {
+pub fn many(word: u32) -> usize
+    ensures { λ r. ⌜ (r ≡ word) × (r < 4294967296) ⌝ }
+{
     word as usize
 }
 

@@ -1,47 +1,47 @@
--- `attempt::answer`: a text of at most 4,096 bytes lies in the buffer. Assumes nothing.
-use Prim.Native.Nat.{_≤_}
-use lib.ListN.{length}
-use Rattle.packed.proofs.Places.{front}
+-- `attempt::answer` meets its contract: a text lies within its bytes. Assumes nothing.
+use mathlib.Core.List.{List}
+use mathlib.Core.Path.{_≡_, sym, ap}
+use Prim.Native.Nat.{ℕ, _≤_}
+use native.Mathlib.Omega.{arith}
+use denote.Ref.{now}
+use lib.ListN.{length, drop, replicate, length-append}
+use lib.Seq.{length-take-le}
 use borrow.Author.Needs.{needs}
+use Rattle.attempt_text.specs.Traced.{filled, textOf}
 use Rattle.attempt.proofs.answer.Statement.{statement}
 use Rattle.attempt.proofs.answer.Tie as tie
 
-buffer-requires : tie.Need-buffer-requires
-buffer-requires c κs = search needs
-
-slice-aggregate-text : tie.Need-slice-aggregate-text
-slice-aggregate-text c = search needs
+-- a text lies within its bytes
+fits : (t bytes : List ℕ) (n : ℕ) → bytes ≡ filled t → n ≡ length t → n ≤ length bytes
+fits t bytes n e f = omega (arith, f, ap length e, length-append t (drop (length t) (replicate 4096 0)))
 
 text-requires : tie.Need-text-requires
 text-requires c κs = search needs
 
-returns : tie.Need-returns
-returns c = search needs
-
-array-share-prefix-out : tie.Need-array-share-prefix-out
-array-share-prefix-out c = search needs
+array-share-prefix-bytes : tie.Need-array-share-prefix-bytes
+array-share-prefix-bytes c =
+    let t = c .before .text in
+    fits (textOf (now (c .before .before .before .args .record))) _ _ (t .ensures .0) (t .ensures .1 .0)
 
 slice-aggregate-write-all : tie.Need-slice-aggregate-write-all
 slice-aggregate-write-all c =
-    let out = c .before .before .before .text .last .1 .0 in
-    let held : c .before .before .before .text .result ≤ length out = search needs in
-    front (c .before .before .before .text .result) out held
+    let t = c .before .before .text in
+    sym (length-take-le (t .result .len) (t .result .bytes) (fits (textOf (now (c .before .before .before .before .args .record))) _ _ (t
+    .ensures .0)
+    (t .ensures .1 .0)))
 
 write-all-requires : tie.Need-write-all-requires
 write-all-requires c κs = search needs
 
-returns-2 : tie.Need-returns-2
-returns-2 c = search needs
+returns : tie.Need-returns
+returns c = search needs
 
 pub answer-spec : {M : Type 1} → statement M
 answer-spec =
     tie.close
     (tie.spec
-    buffer-requires
-    slice-aggregate-text
     text-requires
-    returns
-    array-share-prefix-out
+    array-share-prefix-bytes
     slice-aggregate-write-all
     write-all-requires
-    returns-2)
+    returns)

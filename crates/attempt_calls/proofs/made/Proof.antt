@@ -19,9 +19,6 @@ many-requires-2 c κs = search needs
 shared-slice-read-most : tie.Need-shared-slice-read-most
 shared-slice-read-most c = search needs
 
-cast-most : tie.Need-cast-most
-cast-most c = search needs
-
 lend-requires : tie.Need-lend-requires
 lend-requires c κs = search needs
 
@@ -85,7 +82,6 @@ made-spec =
     shared-slice-read-many-2
     many-requires-2
     shared-slice-read-most
-    cast-most
     lend-requires
     lend-requires-2
     lend-requires-3

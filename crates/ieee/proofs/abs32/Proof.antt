@@ -1,13 +1,13 @@
 -- `ieee::abs32` meets its contract: each way out by a law of `Helpers`. Assumes nothing.
-use mathlib.Core.Path.{sym, subst}
 use lib.Dec.{T}
 use lib.Ieee.{binary32, ofBits, fits}
+use denote.Floats.{passes}
 use Rattle.ieee.proofs.Helpers.{abs-neg, abs-zero, abs-else}
 use Rattle.ieee.proofs.abs32.Statement.{statement}
 use Rattle.ieee.proofs.abs32.Tie as tie
 
 held : (c : tie.Start) → T (fits binary32 (c .args .x))
-held c = subst T (sym (c .good .0 .1)) tt
+held c = passes _ (c .good .0 .1)
 
 returns : tie.Need-returns
 unfolding ofBits

@@ -4,6 +4,7 @@ use lib.Dec.{T}
 use lib.Ieee.{binary64, fits, div, ofBits}
 use lib.Ieee.Compare.{differs-from-itself}
 use lib.Ieee.Bits.{ofBits-toBits}
+use denote.Floats.{passes}
 use Rattle.ieee.specs.Narrow.{narrow}
 use Rattle.ieee.proofs.Tests.{ne-no-nan}
 use Rattle.ieee.proofs.Narrows.{no-nan-64, no-nan-32, narrow-nan}
@@ -11,7 +12,7 @@ use Rattle.ieee.proofs.narrowed.Statement.{statement}
 use Rattle.ieee.proofs.narrowed.Tie as tie
 
 held : (c : tie.Start) → T (fits binary64 (c .args .x))
-held c = subst T (sym (c .good .0 .1)) tt
+held c = passes _ (c .good .0 .1)
 
 returns : tie.Need-returns
 unfolding div ofBits

@@ -1,14 +1,14 @@
 -- `ieee::negative` meets its contract: the sign is the highest bit. Assumes nothing.
-use mathlib.Core.Path.{sym, subst}
 use lib.Dec.{T}
 use lib.Ieee.{binary32, fits}
+use denote.Floats.{passes}
 use Rattle.ieee.proofs.Helpers.{sign-bit}
 use borrow.Author.Needs.{needs}
 use Rattle.ieee.proofs.negative.Statement.{statement}
 use Rattle.ieee.proofs.negative.Tie as tie
 
 held : (c : tie.Start) → T (fits binary32 (c .args .x))
-held c = subst T (sym (c .good .0 .1)) tt
+held c = passes _ (c .good .0 .1)
 
 float-to-bits-result : tie.Need-float-to-bits-result
 float-to-bits-result c = search needs

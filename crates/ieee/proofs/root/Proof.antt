@@ -1,17 +1,17 @@
 -- `ieee::root` meets its contract: a positive, finite pattern by `root_bits`; the infinity and a zero are their own roots; else a NaN.
 -- Assumes nothing.
-use mathlib.Core.Path.{sym, ap, _∙_, subst}
+use mathlib.Core.Path.{ap, _∙_}
 use lib.Ieee.{binary32, ofBits, div, fits}
 use lib.Dec.{T}
 use lib.Ieee.Bits.{ofBits-toBits}
+use denote.Floats.{passes}
 use Rattle.ieee.specs.Root.{sqrt}
 use Rattle.ieee.proofs.Tests.{lt-no-nan-r, no-nan-pattern, inf-of-bits, pos-bits, sqrt-inf, sqrt-zero, sqrt-else}
 use Rattle.ieee.proofs.root.Statement.{statement}
 use Rattle.ieee.proofs.root.Tie as tie
 
--- what owning an `f32` tells: the format holds it
 held : (c : tie.Start) → T (fits binary32 (c .args .x))
-held c = subst T (sym (c .good .0 .1)) tt
+held c = passes _ (c .good .0 .1)
 
 float-to-bits-b : tie.Need-float-to-bits-b
 float-to-bits-b c = lt-no-nan-r _ _ (c .if1 .taken)

@@ -4,7 +4,7 @@ use Rattle.listing.proofs.Records.{accepted, small-area, wide-is, high-
 use Rattle.listing.proofs.Pieces.{one-short}
 use Rattle.listing.proofs.Numbers.{line-short}
 use Rattle.listing.specs.Listing.{pictureText, textOf}
-use Rattle.listing.specs.Text.{lineOf, refusedWord}
+use Rattle.text.specs.Text.{lineOf, refusedWord}
 use Rattle.laws.specs.Plane.{plane}
 use lib.ListN.{length, take, drop}
 use denote.Ref.{now}

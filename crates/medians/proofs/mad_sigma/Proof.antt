@@ -1,7 +1,7 @@
 -- `medians::mad_sigma` meets its contract: each check of the door has its case of `madSigmaAnswer`; room for 64 values or for 4,096.
 -- Assumes nothing.
 use mathlib.Core.List.{[], _∷_}
-use Rattle.math.specs.Answers.{give}
+use Rattle.laws.specs.Said.{give}
 use mathlib.Core.Path.{_≡_, sym, ap, _∙_}
 use mathlib.Core.Bool.{true}
 use Prim.Native.Nat.{_≤_}
@@ -21,7 +21,7 @@ returns : tie.Need-returns
 unfolding madSigmaAnswer
 returns c =
     let s = c .before .before in
-    refuse-9 (s .args .values .now) (give (madSigma (s .args .values .now) ∷ [])) (c .if1 .taken)
+    refuse-9 (s .args .values .now) (give (madSigma (s .args .values .now))) (c .if1 .taken)
 
 all-fit-requires : tie.Need-all-fit-requires
 all-fit-requires c κs = search needs
@@ -32,7 +32,7 @@ returns-2 c =
     let a = c .before in
     let s = a .before .before .before in
     let h : length (s .args .values .now) ≤ 4096 = omega arith in
-    refuse-10 (s .args .values .now) (give (madSigma (s .args .values .now) ∷ [])) h
+    refuse-10 (s .args .values .now) (give (madSigma (s .args .values .now))) h
     (sym (a .all-fit .ensures .0) ∙ not-yes _ (c .if2 .taken))
 
 array-borrow-prefix-few : tie.Need-array-borrow-prefix-few
@@ -61,7 +61,7 @@ returns-3 c =
     let s = a .before .before .before in
     let h : length (s .args .values .now) ≤ 4096 = omega arith in
     let e : allUsable (s .args .values .now) ≡ true = sym (a .all-fit .ensures .0) ∙ not-no _ (w .before .before .before .if2 .left) in
-    ap (λ (x : Float). give (x ∷ [])) (w .spread .ensures) ∙ pass (s .args .values .now) (give (madSigma (s .args .values .now) ∷ [])) h e
+    ap (λ (x : Float). give x) (w .spread .ensures) ∙ pass (s .args .values .now) (give (madSigma (s .args .values .now))) h e
 
 array-borrow-prefix-work : tie.Need-array-borrow-prefix-work
 array-borrow-prefix-work c = search needs
@@ -89,7 +89,7 @@ returns-4 c =
     let s = a .before .before .before in
     let h : length (s .args .values .now) ≤ 4096 = omega arith in
     let e : allUsable (s .args .values .now) ≡ true = sym (a .all-fit .ensures .0) ∙ not-no _ (w .before .before .before .if2 .left) in
-    ap (λ (x : Float). give (x ∷ [])) (w .spread2 .ensures) ∙ pass (s .args .values .now) (give (madSigma (s .args .values .now) ∷ [])) h e
+    ap (λ (x : Float). give x) (w .spread2 .ensures) ∙ pass (s .args .values .now) (give (madSigma (s .args .values .now))) h e
 
 pub mad-sigma-spec : {M : Type 1} → statement M
 mad-sigma-spec =

@@ -1,7 +1,7 @@
 -- `medians::median` meets its contract: each check of the door has its case of `medianAnswer`; a refusal leaves the list alone.
 -- Assumes nothing.
 use mathlib.Core.List.{[], _∷_}
-use Rattle.math.specs.Answers.{give}
+use Rattle.laws.specs.Said.{give}
 use Rattle.medians.specs.Median.{median}
 use Rattle.medians.specs.Median.{medianAnswer}
 use Rattle.medians.proofs.Numbers.{refuse-9, refuse-10, pass}
@@ -21,7 +21,7 @@ returns : tie.Need-returns
 unfolding medianAnswer
 returns c =
     let s = c .before .before in
-    (refuse-9 (s .args .values .now) (give (median (s .args .values .now) ∷ [])) (c .if1 .taken), refl)
+    (refuse-9 (s .args .values .now) (give (median (s .args .values .now))) (c .if1 .taken), refl)
 
 all-fit-requires : tie.Need-all-fit-requires
 all-fit-requires c κs = search needs
@@ -35,7 +35,7 @@ returns-2 c =
     let a = c .before in
     let s = a .before .before .before .before in
     let h : length (s .args .values .now) ≤ 4096 = omega arith in (
-      refuse-10 (s .args .values .now) (give (median (s .args .values .now) ∷ [])) h
+      refuse-10 (s .args .values .now) (give (median (s .args .values .now))) h
           (sym (a .all-fit .ensures .0) ∙ not-yes _ (c .if2 .taken)),
       refl,
     )
@@ -54,8 +54,8 @@ returns-3 c =
     let s = a .before .before .before .before in
     let h : length (s .args .values .now) ≤ 4096 = omega arith in
     let e : allUsable (s .args .values .now) ≡ true = sym (a .all-fit .ensures .0) ∙ not-no _ (w .before .before .if2 .left) in (
-      ap (λ (x : Float). give (x ∷ [])) (w .middle .ensures .0 .0)
-          ∙ pass (s .args .values .now) (give (median (s .args .values .now) ∷ [])) h e,
+      ap (λ (x : Float). give x) (w .middle .ensures .0 .0)
+          ∙ pass (s .args .values .now) (give (median (s .args .values .now))) h e,
       w .middle .ensures .0 .1,
     )
 

@@ -1,8 +1,9 @@
 -- `exports::equations::lcr_least_squares` meets its contract. Assumes nothing.
 use mathlib.Core.Path.{ap, _∙_}
 use denote.Ref.{now}
-use Rattle.math.specs.Answers.{Said}
-use Rattle.numbers_out.specs.Solutions.{givenOr, solutionResult}
+use mathlib.Core.List.{List}
+use lib.Ieee.{Float}
+use Rattle.laws.specs.Said.{Said, resultOf, leftOf}
 use borrow.Author.Needs.{needs}
 use Rattle.exports.proofs.equations.lcr_least_squares.Statement.{statement}
 use Rattle.exports.proofs.equations.lcr_least_squares.Tie as tie
@@ -17,8 +18,8 @@ returns : tie.Need-returns
 returns c =
     let a = c .before .before .before .before .before .args in
     let e = c .before .before .least-squares .ensures in (
-      c .put-solution .ensures .0 ∙ ap solutionResult e,
-      c .put-solution .ensures .1 ∙ ap (λ (s : Said). givenOr (s .values) (now (a .x))) e,
+      c .put-solution .ensures .0 ∙ ap resultOf e,
+      c .put-solution .ensures .1 ∙ ap (λ (s : Said (List Float)). leftOf s (now (a .x))) e,
     )
 
 pub lcr-least-squares-spec : {M : Type 1} → statement M

@@ -1,8 +1,8 @@
 -- `exports::equations::lcr_mad_sigma` meets its contract. Assumes nothing.
 use mathlib.Core.Path.{ap, _∙_}
 use denote.Ref.{now}
-use Rattle.math.specs.Answers.{Said}
-use Rattle.numbers_out.specs.Solutions.{valueAfter}
+use lib.Ieee.{Float}
+use Rattle.laws.specs.Said.{Said, resultOf, leftOf}
 use borrow.Author.Needs.{needs}
 use Rattle.exports.proofs.equations.lcr_mad_sigma.Statement.{statement}
 use Rattle.exports.proofs.equations.lcr_mad_sigma.Tie as tie
@@ -17,8 +17,8 @@ returns : tie.Need-returns
 returns c =
     let a = c .before .before .before .before .args in
     let e = c .before .before .mad-sigma .ensures in (
-      c .put-number .ensures .0 ∙ ap (λ (s : Said). s .number) e,
-      c .put-number .ensures .1 ∙ ap (λ (s : Said). valueAfter (s .values) (now (a .sigma))) e,
+      c .put-number .ensures .0 ∙ ap resultOf e,
+      c .put-number .ensures .1 ∙ ap (λ (s : Said Float). leftOf s (now (a .sigma))) e,
     )
 
 pub lcr-mad-sigma-spec : {M : Type 1} → statement M

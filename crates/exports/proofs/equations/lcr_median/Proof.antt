@@ -1,9 +1,9 @@
 -- `exports::equations::lcr_median` meets its contract. Assumes nothing.
-use mathlib.Core.Path.{sym, ap, _∙_, subst}
+use mathlib.Core.Path.{ap, _∙_, subst}
 use denote.Ref.{now}
-use Rattle.math.specs.Answers.{Said}
-use Rattle.numbers_out.specs.Solutions.{valueAfter, ValuesAfter}
-use Rattle.numbers_out.proofs.Handed.{left-by}
+use lib.Ieee.{Float}
+use Rattle.laws.specs.Said.{Said, resultOf, leftOf}
+use Rattle.medians.specs.Median.{Left}
 use borrow.Author.Needs.{needs}
 use Rattle.exports.proofs.equations.lcr_median.Statement.{statement}
 use Rattle.exports.proofs.equations.lcr_median.Tie as tie
@@ -23,11 +23,10 @@ returns c =
     let a = at .before .before .before .args in
     let d = at .median in
     let r = c .put-number .ensures in (
-      r .0 ∙ ap (λ (s : Said). s .number) (d .ensures .0),
+      r .0 ∙ ap resultOf (d .ensures .0),
       (
-        r .1 ∙ ap (λ (s : Said). valueAfter (s .values) (now (a .median))) (d .ensures .0),
-        subst (λ n. ValuesAfter n (now (a .values)) (d .last .0)) (sym (r .0))
-            (left-by (d .result) (now (a .values)) (d .last .0) (d .ensures .1)),
+        r .1 ∙ ap (λ (s : Said Float). leftOf s (now (a .median))) (d .ensures .0),
+        subst (λ (s : Said Float). Left s (now (a .values)) (d .last .0)) (d .ensures .0) (d .ensures .1),
       ),
     )
 

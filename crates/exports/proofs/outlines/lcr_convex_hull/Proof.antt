@@ -1,34 +1,60 @@
--- `exports::outlines::lcr_convex_hull` meets its contract. Assumes nothing.
-use mathlib.Core.Path.{_≡_, refl, _∙_}
-use mathlib.Core.Bool.{true, false}
-use lib.Dec.{ltb}
-use lib.ListN.{length}
-use borrow.Author.Tests.{lt-ltb, le-ltb}
+-- `exports::outlines::lcr_convex_hull` meets its contract: the door's answer, handed on. Assumes nothing.
+use mathlib.Core.Path.{sym, ap, _∙_}
 use denote.Ref.{now}
 use borrow.Author.Needs.{needs}
+use Rattle.laws.specs.Said.{resultOf, leftOf}
+use Rattle.hull.specs.Door.{hulledSaid, verticesAfter}
+use Rattle.hull.specs.declared.Hulled.{Hulled}
 use Rattle.exports.proofs.outlines.lcr_convex_hull.Statement.{statement}
 use Rattle.exports.proofs.outlines.lcr_convex_hull.Tie as tie
-
-returns : tie.Need-returns
-returns c =
-    let a = c .before .before .before .args in
-    let t : ltb (length (now (a .out))) (length (now (a .points))) ≡ true
-    = lt-ltb (length (now (a .out))) (length (now (a .points))) (search needs) in
-    rw t (refl, (refl, refl))
 
 convex-hull-requires : tie.Need-convex-hull-requires
 convex-hull-requires c κs = search needs
 
+enum-known-n : tie.Need-enum-known-n
+enum-known-n c = search needs
+
+enum-known-n-2 : tie.Need-enum-known-n-2
+enum-known-n-2 c = search needs
+
 same-length : tie.Need-same-length
 same-length c = search needs
 
+returns : tie.Need-returns
+returns c =
+    let a = c .before .before .before .before .before .before .before .before .before .args in
+    let door = c .before .before .before .before .before .convex-hull .ensures in
+    let told = sym (door .0) ∙ c .before .n .given .1 in (
+      sym (ap (λ (h : Hulled). resultOf (hulledSaid h)) told),
+      (
+        sym (ap (λ (h : Hulled). leftOf (hulledSaid h) (now (a .vertices))) told),
+        door .1 ∙ ap (λ (h : Hulled). verticesAfter h (now (a .points)) (now (a .out))) (door .0),
+      ),
+    )
+
+same-length-2 : tie.Need-same-length-2
+same-length-2 c = search needs
+
 returns-2 : tie.Need-returns-2
 returns-2 c =
-    let a = c .before .before .before .before .before .before .before .args in
-    let t : ltb (length (now (a .out))) (length (now (a .points))) ≡ false
-    = le-ltb (length (now (a .out))) (length (now (a .points))) (search needs) in
-    let d = c .before .before .convex-hull .ensures in
-    rw t (refl, (d .0, d .1))
+    let a = c .before .before .before .before .before .before .before .before .before .args in
+    let door = c .before .before .before .before .before .convex-hull .ensures in
+    let told = sym (door .0) ∙ c .before .n2 .given .1 in (
+      sym (ap (λ (h : Hulled). resultOf (hulledSaid h)) told),
+      (
+        sym (ap (λ (h : Hulled). leftOf (hulledSaid h) (now (a .vertices))) told),
+        door .1 ∙ ap (λ (h : Hulled). verticesAfter h (now (a .points)) (now (a .out))) (door .0),
+      ),
+    )
 
 pub lcr-convex-hull-spec : {M : Type 1} → statement M
-lcr-convex-hull-spec = tie.close (tie.spec returns convex-hull-requires same-length returns-2)
+lcr-convex-hull-spec =
+    tie.close
+    (tie.spec
+    convex-hull-requires
+    enum-known-n
+    enum-known-n-2
+    same-length
+    returns
+    same-length-2
+    returns-2)

@@ -2,13 +2,14 @@
 use mathlib.Core.Path.{_≡_, refl, sym, ap, _∙_, subst}
 use denote.Ref.{now}
 use Rattle.laws.specs.Lent.{UntouchedPast}
-use Rattle.ring.specs.Door.{answerOf}
+use Rattle.laws.specs.Said.{resultOf}
+use Rattle.ring.specs.Door.{answerOf, attemptSaid}
 use Rattle.ring.specs.Trace.{attemptOf}
 use Rattle.ring.specs.declared.door.Answer.{Answer}
 use Rattle.ring.specs.declared.quads.Trace.{Trace}
 use Rattle.rings_out.specs.Rings.{rowsOf, ringOf, cornersOf, isFound}
-use Rattle.exports.proofs.Attempts.{attempt-number, attempt-trace, needed-given}
-use Rattle.exports.proofs.Attempts.{refused-number, refused-some, needed-refused}
+use Rattle.exports.proofs.Attempts.{said-given, said-refused, attempt-number, attempt-trace, needed-given}
+use Rattle.exports.proofs.Attempts.{refused-some, needed-refused}
 use Rattle.exports.proofs.Leaves.{left-refused}
 use borrow.Author.Needs.{needs}
 use Rattle.exports.proofs.rings.lcr_attempt.Statement.{statement}
@@ -49,7 +50,7 @@ returns c =
     = ap (λ (r : Answer). r .trace) (d .ensures .0) ∙ attempt-trace _ _ _ _ _ _ n in
     let all = needed-given (d .result .outcome) (now (a .points)) told in
     let p = c .put-trace .ensures in (
-      n,
+      said-given (d .result) told ∙ ap (λ (r : Answer). resultOf (attemptSaid r)) (d .ensures .0),
       (
         subst (λ k. UntouchedPast k (now (a .straight)) (last .0)) all (d .ensures .1 .0),
         (
@@ -102,7 +103,7 @@ returns-2 c =
     let e = ap (λ (r : Answer). r .outcome) (d .ensures .0) in
     let off = refused-some _ _ _ _ _ _ o k e refused in
     let none = needed-refused o (now (a .points)) k refused ∙ sym (left-refused k _ _ off) in (
-      refused-number _ _ _ _ _ _ o k e refused,
+      said-refused (d .result) k refused ∙ ap (λ (r : Answer). resultOf (attemptSaid r)) (d .ensures .0),
       (
         subst (λ n. UntouchedPast n (now (a .straight)) (last .0)) none (d .ensures .1 .0),
         (

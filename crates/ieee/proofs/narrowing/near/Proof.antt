@@ -1,10 +1,11 @@
 -- `ieee::narrowing::near` meets its contract: the pattern is that of `usual_bits`. Assumes nothing.
-use mathlib.Core.Path.{sym, ap, _∙_, subst}
+use mathlib.Core.Path.{ap, _∙_}
 use Prim.Native.Nat.{_%_, _≤_, _<_}
 use native.Mathlib.Omega.{arith}
 use lib.Dec.{T}
 use lib.Ieee.{binary64, fits, toBits}
 use lib.Ieee.Bits.{ofBits-toBits}
+use denote.Floats.{passes}
 use Rattle.ieee.specs.Narrow.{narrow}
 use Rattle.ieee.proofs.Narrows.{no-nan-32}
 use Rattle.ieee.proofs.Usual.{usual-bits, usual-no-nan, near-is}
@@ -12,7 +13,7 @@ use Rattle.ieee.proofs.narrowing.near.Statement.{statement}
 use Rattle.ieee.proofs.narrowing.near.Tie as tie
 
 held : (c : tie.Start) → T (fits binary64 (c .args .x))
-held c = subst T (sym (c .good .0 .1)) tt
+held c = passes _ (c .good .0 .1)
 
 float-to-bits-usual-bits : tie.Need-float-to-bits-usual-bits
 float-to-bits-usual-bits c = usual-no-nan _ (c .pre)

@@ -1,7 +1,7 @@
 -- `listing::describe::outline_lines` meets its contract. Assumes nothing.
 use Rattle.listing.proofs.Pieces.{two-short, line-next, hull-near, lines-stored}
 use Rattle.listing.proofs.Outlines.{hull-few}
-use Rattle.listing.specs.Text.{outlineWord}
+use Rattle.listing.specs.Listing.{outlineWord}
 use Rattle.hull.specs.Points.{many}
 use lib.Seq.{length-take-le}
 use lib.ListN.{length}

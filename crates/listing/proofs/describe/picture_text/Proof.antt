@@ -2,7 +2,7 @@
 use Rattle.listing.proofs.Texts.{picture-taken, kept-few, text-stored}
 use Rattle.listing.proofs.Pictures.{mapped}
 use Rattle.listing.proofs.Pieces.{two-short, line-next}
-use Rattle.listing.specs.Text.{regionsWord}
+use Rattle.listing.specs.Listing.{regionsWord}
 use lib.ListN.{length}
 use denote.Ref.{now}
 use native.Mathlib.Omega.{arith}
@@ -35,7 +35,7 @@ cast-t23 c =
     let r = o .result .regions in
     let k = picture-taken (now (a .s)) (a .w) (a .h) (e .pre .0) (o .result) (o .ensures .0) in
     let f = kept-few (now (a .s)) (a .w) (a .h) (e .pre .0) r (k .1) in
-    omega (arith, f .0)
+    omega (arith, f .0, f .1)
 
 cast-t24 : tie.Need-cast-t24
 cast-t24 c =
@@ -45,7 +45,7 @@ cast-t24 c =
     let r = o .result .regions in
     let k = picture-taken (now (a .s)) (a .w) (a .h) (e .pre .0) (o .result) (o .ensures .0) in
     let f = kept-few (now (a .s)) (a .w) (a .h) (e .pre .0) r (k .1) in
-    omega (arith, f .1)
+    omega (arith, f .0, f .1)
 
 slice-aggregate-line-2 : tie.Need-slice-aggregate-line-2
 slice-aggregate-line-2 c = search needs
@@ -58,7 +58,7 @@ line-requires c κs =
     let r = o .result .regions in
     let k = picture-taken (now (a .s)) (a .w) (a .h) (e .pre .0) (o .result) (o .ensures .0) in
     let f = kept-few (now (a .s)) (a .w) (a .h) (e .pre .0) r (k .1) in
-    (two-short (r .all) (r .kept) (f .0) (f .1), omega (arith, e .pre .1))
+    (two-short _ _ (omega (arith, f .0, f .1)) (omega (arith, f .0, f .1)), omega (arith, e .pre .1))
 
 slice-aggregate-all-regions : tie.Need-slice-aggregate-all-regions
 slice-aggregate-all-regions c = search needs
@@ -85,7 +85,11 @@ all-regions-requires c κs =
             (omega arith) (o .ensures .1 .0) (o .ensures .1 .1 .0),
         (
           k .1,
-          line-next regionsWord _ 336 (two-short (r .all) (r .kept) (f .0) (f .1)) (omega (arith, e .pre .1)) (c .before .before
+          line-next regionsWord _ 336 (two-short _ _ (omega (arith, f .0, f .1)) (omega (arith, f .0, f .1))) (omega (
+            arith,
+            e .pre
+                .1,
+          )) (c .before .before
               .before .before .before .line .ensures),
         ),
       ),

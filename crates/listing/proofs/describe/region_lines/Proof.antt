@@ -6,7 +6,7 @@ use lib.ListN.{length, take}
 use lib.Seq.{length-take-le}
 use denote.Ref.{now}
 use borrow.Author.Needs.{needs}
-use Rattle.listing.specs.Text.{regionWord}
+use Rattle.listing.specs.Listing.{regionWord}
 use Rattle.listing.proofs.Pictures.{part-outlined, region-stored}
 use Rattle.listing.proofs.Pieces.{region-short, line-next}
 use Rattle.listing.proofs.describe.region_lines.Statement.{statement}

@@ -1,6 +1,7 @@
 -- `ring::door::attempt` meets its contract. What an accepted call knows is `passed`; a refused one has touched nothing. Assumes nothing.
 use mathlib.Core.Path.{sym, _∙_}
 use denote.Ref.{now}
+use native.Mathlib.Omega.{arith}
 use lib.ListN.{length}
 use borrow.Author.Needs.{needs}
 use Rattle.laws.proofs.Past.{past-none}
@@ -11,6 +12,13 @@ use Rattle.ring.proofs.door.attempt.Tie as tie
 
 check-requires : tie.Need-check-requires
 check-requires c κs = search needs
+
+cast-attempt : tie.Need-cast-attempt
+cast-attempt c =
+    let a = c .before .before .before .before .before .before .before .args in
+    let p = passed (a .width) (a .height) (length (now (a .gray))) (now (a .points)) (length (now (a .straight)))
+    (length (now (a .cand))) (length (now (a .buf))) (a .most) (sym (c .before .check .ensures) ∙ c .if1 .taken) in
+    omega (arith, p .version)
 
 attempt-requires : tie.Need-attempt-requires
 attempt-requires c κs =
@@ -56,6 +64,7 @@ attempt-spec =
     tie.close
     (tie.spec
     check-requires
+    cast-attempt
     attempt-requires
     same-length
     same-length-2

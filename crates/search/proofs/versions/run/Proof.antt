@@ -1,6 +1,7 @@
 -- `search::versions::run` makes 65 steps, or fewer where the search has ended. Invariant: the steps left from here give the whole search,
 -- and there is room for the next score. Measure: the steps left. Assumes nothing.
-use Prim.Native.Nat.{_-_}
+use Prim.Native.Nat.{_-_, _<_}
+use native.Mathlib.Omega.{arith}
 use mathlib.Core.Path.{_≡_, _∙_, sym, ap, subst}
 use borrow.Author.Needs.{needs}
 use Rattle.search.proofs.Searches.{start-held, steps-step, steps-stay, steps-end}
@@ -22,6 +23,9 @@ loop-holds c =
     let a = c .before .before .args in
     (subst Held (sym (c .start .ensures)) start-held, ap (stepsOn (a .gray .now) (a .w) (a .h) (a .g) 65 0) (c .start .ensures))
 
+cast-loop : tie.Need-cast-loop Inv-loop μ-loop
+cast-loop c = search needs
+
 returns : tie.Need-returns Inv-loop μ-loop
 returns c =
     let a = c .before .before .before .before .before .args in
@@ -41,9 +45,10 @@ loop-less c = search needs
 
 loop-again : tie.Need-loop-again Inv-loop μ-loop
 loop-again c =
-    let a = c .before .before .before .before .before .before .args in (
+    let a = c .before .before .before .before .before .before .args in
+    let more : c .before .before .before .loop .k < 65 = omega arith in (
       c .step .ensures .1,
-      steps-step (a .gray .now) (a .w) (a .h) (a .g) 65 _ _ _ _ (c .before .before .loop-test .taken) (c .step .ensures .0)
+      steps-step (a .gray .now) (a .w) (a .h) (a .g) 65 _ _ _ _ more (c .step .ensures .0)
           (c .before .before .before .loop .inv .1),
     )
 
@@ -60,6 +65,7 @@ run-spec =
     μ-loop
     start-requires
     loop-holds
+    cast-loop
     returns
     step-requires
     add-k

@@ -1,11 +1,12 @@
 -- `words::floats::bits32` meets its contract. Assumes nothing.
+use Rattle.words.proofs.Patterns.{bits-32}
 use Rattle.ieee.proofs.Tests.{ne-no-nan}
 use borrow.Author.Needs.{needs}
 use Rattle.words.proofs.floats.bits32.Statement.{statement}
 use Rattle.words.proofs.floats.bits32.Tie as tie
 
 returns : tie.Need-returns
-returns c = search needs
+returns c = bits-32 (c .before .args .x) (c .if1 .taken)
 
 float-to-bits-result : tie.Need-float-to-bits-result
 float-to-bits-result c = ne-no-nan _ (c .if1 .left)

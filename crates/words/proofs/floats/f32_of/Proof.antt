@@ -1,11 +1,12 @@
 -- `words::floats::f32_of` meets its contract. Assumes nothing.
+use Rattle.words.proofs.Patterns.{nan-of}
 use Rattle.ieee.proofs.Narrows.{no-nan-32}
 use borrow.Author.Needs.{needs}
 use Rattle.words.proofs.floats.f32_of.Statement.{statement}
 use Rattle.words.proofs.floats.f32_of.Tie as tie
 
 returns : tie.Need-returns
-returns c = search needs
+returns c = nan-of (c .before .args .word) (c .if1 .taken)
 
 float-from-bits-result : tie.Need-float-from-bits-result
 float-from-bits-result c = no-nan-32 _ (c .if1 .left)

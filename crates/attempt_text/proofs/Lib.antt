@@ -1,0 +1,6 @@
+pub mod Parts
+pub mod Texts
+pub mod Records
+pub mod Few
+pub mod Wholes
+pub mod Controls
