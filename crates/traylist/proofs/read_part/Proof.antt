@@ -1,10 +1,10 @@
--- `traylist::read_pixels` meets its contract: the part behind the head is lent, and the head stays. Assumes nothing.
+-- `traylist::read_part` meets its contract: a part is lent, and what stands before it stays. Assumes nothing.
 use native.Mathlib.Omega.{arith}
 use Prim.Native.Nat.{_+_, _-_}
 use borrow.Rule.Slice.PartMut.{take-put}
 use borrow.Author.Needs.{needs}
-use Rattle.traylist.proofs.read_pixels.Statement.{statement}
-use Rattle.traylist.proofs.read_pixels.Tie as tie
+use Rattle.traylist.proofs.read_part.Statement.{statement}
+use Rattle.traylist.proofs.read_part.Tie as tie
 
 add-end : tie.Need-add-end
 add-end c = search needs
@@ -27,10 +27,10 @@ same-length c = search needs
 returns : tie.Need-returns
 returns c =
     let a = c .before .before .before .before .before .args in
-    (search needs, take-put 10 (10 + a .more - 10) (a .bytes .now) (c .before .before .read-full .last .1 .0) (omega arith))
+    (search needs, take-put (a .at) (a .at + a .n - a .at) (a .bytes .now) (c .before .before .read-full .last .1 .0) (omega arith))
 
-pub read-pixels-spec : {M : Type 1} → statement M
-read-pixels-spec =
+pub read-part-spec : {M : Type 1} → statement M
+read-part-spec =
     tie.close
     (tie.spec
     add-end

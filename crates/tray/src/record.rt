@@ -1,8 +1,18 @@
 // The record: four-byte length of the rest, two-byte kind 1, two-byte width and height, pixels.
+use pgm::File;
 ghost use mathlib.Core.Path.{_≡_};
 ghost use Prim.Native.Nat.{_+_, _*_, _<_, _≤_};
 ghost use lib.ListN.{length};
-ghost use Rattle.listing.specs.Listing.{pairAt, fourAt, isTraySide, checkRecord, asked};
+ghost use Rattle.pgm.specs.Doors.{found};
+ghost use Rattle.tray.specs.Record.{
+  pairAt,
+  fourAt,
+  widthOf,
+  heightOf,
+  isTraySide,
+  checkRecord,
+  asked,
+};
 
 // How many bytes stand before the pixels.
 pub const HEAD: usize = 10;
@@ -14,7 +24,7 @@ fn byte(b: u8) -> usize
 }
 
 // The number of two bytes, the lower first.
-pub(crate) fn pair_at(s: &[u8], i: usize) -> usize
+fn pair_at(s: &[u8], i: usize) -> usize
     requires { ⌜ i + 2 ≤ length (now s) ⌝ }
     ensures { λ r. ⌜ (r ≡ pairAt (now (s .entry)) i) × (r < 65536) ⌝ }
 {
@@ -64,7 +74,7 @@ pub fn pixels(head: &[u8]) -> usize
 }
 
 // 13 where the record is no picture of the tray list, else 0.
-pub fn check(s: &[u8]) -> u32
+fn check(s: &[u8]) -> u32
     ensures { λ r. ⌜ r ≡ checkRecord (now (s .entry)) ⌝ }
 {
     let n = pixels(s);
@@ -75,4 +85,17 @@ pub fn check(s: &[u8]) -> u32
         return 13;
     }
     0
+}
+
+// The picture of a record.
+pub(crate) fn find(s: &[u8]) -> File
+    ensures { λ r. ⌜
+        r ≡ found (checkRecord (now (s .entry))) (widthOf (now (s .entry)))
+        (heightOf (now (s .entry))) 10 ⌝ }
+{
+    let n = check(s);
+    if n != 0 {
+        return File::Refused(n);
+    }
+    File::Picture(pair_at(s, 6), pair_at(s, 8), 10)
 }

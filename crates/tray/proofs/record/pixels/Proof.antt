@@ -1,15 +1,15 @@
--- `listing::record::pixels` meets its contract. Each way out is one check of the head. Assumes nothing.
+-- `tray::record::pixels` meets its contract. Each way out is one check of the head. Assumes nothing.
 use Prim.Native.Nat.{ℕ, _+_, _*_, _≤_}
 use native.Mathlib.Omega.{arith}
 use denote.Ref.{now}
 use lib.ListN.{length}
 use mathlib.Core.Path.{_≡_, sym, ap₂, _∙_}
 use Rattle.laws.proofs.Bools.{not-true, not-false}
-use Rattle.listing.specs.Listing.{pairAt}
-use Rattle.listing.proofs.Records.{side-of, area-small, none-short, none-kind, none-wide, none-high, none-long, asked-all}
+use Rattle.tray.specs.Record.{pairAt}
+use Rattle.tray.proofs.Records.{side-of, area-small, none-short, none-kind, none-wide, none-high, none-long, asked-all}
 use borrow.Author.Needs.{needs}
-use Rattle.listing.proofs.record.pixels.Statement.{statement}
-use Rattle.listing.proofs.record.pixels.Tie as tie
+use Rattle.tray.proofs.record.pixels.Statement.{statement}
+use Rattle.tray.proofs.record.pixels.Tie as tie
 
 returns : tie.Need-returns
 returns c = (none-short (now (c .before .before .args .head)) (omega arith), omega arith)

@@ -1,8 +1,8 @@
--- `listing::record::is_side` meets its contract. Assumes nothing.
+-- `tray::record::is_side` meets its contract. Assumes nothing.
 use borrow.Author.Tests.{le-leb, lt-leb}
 use native.Mathlib.Omega.{arith}
-use Rattle.listing.proofs.record.is_side.Statement.{statement}
-use Rattle.listing.proofs.record.is_side.Tie as tie
+use Rattle.tray.proofs.record.is_side.Statement.{statement}
+use Rattle.tray.proofs.record.is_side.Tie as tie
 
 returns : tie.Need-returns
 returns c = rw (lt-leb 1 (c .before .args .n) (omega arith))

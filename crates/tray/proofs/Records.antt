@@ -1,7 +1,6 @@
 -- Laws of the record. Its head check by check: side-in, side-of, none-short to asked-all; small-area, area-small. The record by its head:
 -- check-by, head-length, asked-yes, check-yes, asked-no, check-no, head-of, refuse-head, refuse-cut, check-whole. What an accepted
--- record is: Accepted with accepted; its pixels, pixels-are; its sides and its picture, wide-is, high-is, long-is, tray-picture.
--- Assumes nothing.
+-- record is: Accepted with accepted. Its answer: refused-record, found-record. Assumes nothing.
 use mathlib.Core.Path.{_≡_, refl, sym, ap, ap₂, _∙_, subst}
 use mathlib.Core.Bool.{Bool, true, false, _&&_, cond}
 use mathlib.Core.List.{List}
@@ -9,13 +8,15 @@ use Prim.Native.Nat.{ℕ, _+_, _-_, _*_, _≤_, _<_}
 use native.Mathlib.Nat.{mul-le-mul}
 use native.Mathlib.Omega.{arith}
 use lib.Dec.{leb, eqb}
-use lib.ListN.{length, take, drop, length-take, length-drop}
+use lib.ListN.{length}
 use borrow.Author.Tests.{leb-true, eqb-true, le-leb, lt-leb, eq-eqb, ne-eqb}
 use Rattle.laws.specs.Check.{orRefuse}
 use Rattle.laws.proofs.Bools.{and-left, and-right}
 use Rattle.checks.proofs.Checked.{check-step}
-use Rattle.listing.specs.Listing.{pairAt, fourAt, widthOf, heightOf, pixelsOf, isTraySide, checkRecord, isHead, asked}
-use Rattle.listing.specs.Inner.{TrayPicture}
+use Rattle.pgm.specs.Doors.{found}
+use Rattle.pgm.specs.declared.File.the-variants.{Picture, Refused}
+use Rattle.pgm.proofs.Gates.{refused-is}
+use Rattle.tray.specs.Record.{pairAt, fourAt, widthOf, heightOf, isTraySide, checkRecord, isHead, asked}
 
 pub side-in : (n : ℕ) → isTraySide n ≡ true → (1 ≤ n) × (n ≤ 160)
 side-in n e = (leb-true 1 n (and-left (leb 1 n) (leb n 160) e), leb-true n 160 (and-right (leb 1 n) (leb n 160) e))
@@ -164,29 +165,10 @@ small-area w h a b = mul-le-mul {n₁ = w} {m₁ = h} {n₂ = 160} {m₂ = 160} 
 pub area-small : (w h : ℕ) {a b : Bool} → a ≡ isTraySide w → a ≡ true → b ≡ isTraySide h → b ≡ true → w * h ≤ 25600
 area-small w h e x f y = small-area w h (side-in w (sym e ∙ x) .1) (side-in h (sym f ∙ y) .1)
 
--- the part of a record from 10 up to 10 + n
-pub pixels-are : (s : List ℕ) (n : ℕ) → take (10 + n - 10) (drop 10 s) ≡ take n (drop 10 s)
-pixels-are s n = let z : 10 + n - 10 ≡ n = omega arith in ap (λ (k : ℕ). take k (drop 10 s)) z
+-- ---- its answer
+pub refused-record : (s : List ℕ) (n : ℕ) → n ≡ checkRecord s → (n ≡ 0 → ⊥) → Refused n ≡ found (checkRecord s) (widthOf s) (heightOf s) 10
+refused-record s n e off = refused-is n (widthOf s) (heightOf s) 10 off ∙ ap (λ (k : ℕ). found k (widthOf s) (heightOf s) 10) e
 
--- the sides of an accepted record, and its picture
-module _ (s : List ℕ) (a : Accepted s) (w h : ℕ) (ew : w ≡ widthOf s) (eh : h ≡ heightOf s) where
-  pub wide-is : w ≤ 160
-  wide-is = subst (λ (n : ℕ). n ≤ 160) (sym ew) (a .wide)
-
-  pub high-is : h ≤ 160
-  high-is = subst (λ (n : ℕ). n ≤ 160) (sym eh) (a .high)
-
-  pub long-is : 10 + w * h ≤ length s
-  long-is = subst (λ (n : ℕ). 10 + n ≤ length s) (sym (ap₂ (λ (x y : ℕ). x * y) ew eh)) (a .long)
-
-  pub tray-picture : TrayPicture (take (10 + w * h - 10) (drop 10 s)) w h
-  tray-picture = record {
-    bytes = ap length (pixels-are s (w * h)) ∙ part (w * h) long-is;
-    someWide = subst (λ (n : ℕ). 1 ≤ n) (sym ew) (a .someWide);
-    wide = wide-is;
-    someHigh = subst (λ (n : ℕ). 1 ≤ n) (sym eh) (a .someHigh);
-    high = high-is;
-  }
-    where
-      part : (n : ℕ) → 10 + n ≤ length s → length (take n (drop 10 s)) ≡ n
-      part n l = simp (length-take, length-drop) (omega arith)
+pub found-record : (s : List ℕ) {w h : ℕ} → checkRecord s ≡ 0 → w ≡ widthOf s → h ≡ heightOf s
+    → Picture w h 10 ≡ found (checkRecord s) (widthOf s) (heightOf s) 10
+found-record s {w} {h} e x y = ap₂ (λ (a b : ℕ). Picture a b 10) x y ∙ unfold found in rw e

@@ -1,10 +1,10 @@
--- `listing::record::check` meets its contract: by how many pixels the head asks for. Assumes nothing.
+-- `tray::record::check` meets its contract: by how many pixels the head asks for. Assumes nothing.
 use denote.Ref.{now}
 use native.Mathlib.Omega.{arith}
-use Rattle.listing.proofs.Records.{refuse-head, refuse-cut, check-whole}
+use Rattle.tray.proofs.Records.{refuse-head, refuse-cut, check-whole}
 use borrow.Author.Needs.{needs}
-use Rattle.listing.proofs.record.check.Statement.{statement}
-use Rattle.listing.proofs.record.check.Tie as tie
+use Rattle.tray.proofs.record.check.Statement.{statement}
+use Rattle.tray.proofs.record.check.Tie as tie
 
 pixels-requires : tie.Need-pixels-requires
 pixels-requires c κs = search needs
