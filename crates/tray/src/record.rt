@@ -14,9 +14,6 @@ ghost use Rattle.tray.specs.Record.{
   asked,
 };
 
-// How many bytes stand before the pixels.
-pub const HEAD: usize = 10;
-
 fn byte(b: u8) -> usize
     ensures { λ r. ⌜ (r ≡ b) × (r < 256) ⌝ }
 {
