@@ -8,7 +8,7 @@
  *
  * RESULTS. Every function answers one of these:
  *   LCR_OK (0)      the call is accepted; every out-parameter is written;
- *   1 to 13         the call is refused: the number of the first check that fails, in the order given with each
+ *   1 to 15         the call is refused: the number of the first check that fails, in the order given with each
  *                   function. Out-parameters and lent lists are as before, but for refusal 4;
  *   LCR_NONE (255)  the call is accepted and there is nothing to answer; out-parameters are as before.
  *
@@ -48,7 +48,7 @@ extern "C" {
 enum {
     LCR_OK = 0,          /* accepted and answered */
     LCR_SIDE = 1,        /* a side of the picture outside 1..4,096 */
-    LCR_BYTES = 2,       /* bytes not width x height */
+    LCR_BYTES = 2,       /* bytes not width x height; behind a PGM header, fewer */
     LCR_LENT = 3,        /* a lent list or an out list is too short */
     LCR_STACK = 4,       /* a push finds the stack full; does not happen where LCR_LENT is passed. Labels and stack
                             are all zero then, and the level grid is finished */
@@ -60,7 +60,9 @@ enum {
     LCR_VALUE = 10,      /* a NaN, an infinity or -0 among the values */
     LCR_MARKS = 11,      /* marks or lumas not as many as the version has positions */
     LCR_CELL = 12,       /* a cell coordinate outside -32,768 .. 32,767 */
-    LCR_RECORD = 13,     /* a record that is short or wrong */
+    LCR_RECORD = 13,     /* a record that is short or wrong; in the tray list also a PGM file with a side over 160 */
+    LCR_HEADER = 14,     /* a PGM header that does not follow the form, or does not end within the first 4,096 bytes */
+    LCR_MAXIMUM = 15,    /* a PGM file's maximum value other than 255 */
     LCR_NONE = 255       /* accepted, and there is nothing to answer */
 };
 
@@ -269,17 +271,51 @@ uint32_t lcr_median(float *values, size_t values_len, float *median);
  * are none. sigma: out.   Refusals in order: LCR_SIZE, LCR_VALUE. */
 uint32_t lcr_mad_sigma(const float *values, size_t values_len, float *sigma);
 
+/* ---- PGM files ------------------------------------------------------------------------------------------ */
+
+/* Bytes that are always enough for a written file: a header has at most 17. */
+#define LCR_PGM_BYTES(width, height) ((size_t)(width) * (size_t)(height) + 17)
+
+/* The picture of a binary PGM file, the P5 form of Netpbm's pgm(5), with maximum value 255.
+ *
+ * The header is the two bytes P5; then width, height and maximum value, each as white space and digits, at least one
+ * byte of either; then one byte of white space. White space is space, CR, LF, TAB, VT or FF. Numbers are decimal and
+ * may have leading zeros. From a # through the next CR or LF is a comment, anywhere between P5 and the last byte of
+ * white space: it counts for nothing, its line end included, and may stand within a number.
+ *
+ *   file       file_len bytes, any. Those after the pixels are not read
+ *   width      out: pixels, 1 to 4,096
+ *   height     out: pixels, 1 to 4,096
+ *   at         out: the place in file where the pixels begin, 11 to 4,096; from there on width x height bytes are a
+ *              picture as lcr_picture takes it
+ *
+ * Refusals in order: LCR_HEADER, LCR_MAXIMUM, LCR_SIDE, LCR_BYTES (fewer than width x height bytes after the header). */
+uint32_t lcr_pgm_read(const uint8_t *file, size_t file_len, size_t *width, size_t *height, size_t *at);
+
+/* The binary PGM file of a picture: P5, width, height and 255, without leading zeros, a line feed after each; then the
+ * pixels. lcr_pgm_read gives the same sides and pixels back.
+ *
+ *   gray, width, height     as lcr_picture has them
+ *   out        out, at least as many bytes as the file has: LCR_PGM_BYTES always do
+ *   len        out: how many bytes the file has, 12 to LCR_PGM_BYTES
+ *
+ * Refusals in order: LCR_SIDE, LCR_BYTES, LCR_LENT. */
+uint32_t lcr_pgm_write(const uint8_t *gray, size_t gray_len, size_t width, size_t height, uint8_t *out, size_t out_len,
+                       size_t *len);
+
 /* ---- The tray list -------------------------------------------------------------------------------------- */
 
-/* The listing of a record's picture, as the program traylist prints it.
+/* The listing of a picture, as the program traylist prints it.
  *
- *   record     four-byte length of the rest, two-byte kind 1, two-byte width and height (1 to 160), pixels; all
- *              little-endian. Bytes after the record are not read
+ *   input      input_len bytes, any. A PGM file where they begin with P5, as lcr_pgm_read takes it, sides 1 to 160.
+ *              Else a record: four-byte length of the rest, two-byte kind 1, two-byte width and height (1 to 160),
+ *              pixels; all little-endian. Bytes after the pixels are not read
  *   text       out: lines that end in a line feed, at most 352 bytes, then zeros
  *   len        out: how many bytes the lines have
  *
- * Refusal: LCR_RECORD. */
-uint32_t lcr_listing(const uint8_t *record, size_t record_len, uint8_t text[LCR_TEXT], size_t *len);
+ * Refusals of a PGM file in order: LCR_HEADER, LCR_MAXIMUM, LCR_SIDE, LCR_RECORD (a side over 160), LCR_BYTES. Refusal
+ * of a record: LCR_RECORD. */
+uint32_t lcr_listing(const uint8_t *input, size_t input_len, uint8_t text[LCR_TEXT], size_t *len);
 
 #ifdef __cplusplus
 }

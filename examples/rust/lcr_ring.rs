@@ -1,4 +1,4 @@
-//! A safe wrapper of the ring finder's doors: `regions`, `outline` and `attempt`.
+//! A safe wrapper of the ring finder's doors: `regions`, `outline` and `attempt`; and of PGM files: `pgm_read`, `pgm_write`.
 //!
 //! Link with libexports.a (`rt staticlib exports`). include/lcr_ring.h says what each function takes and gives.
 //! The lists that the doors want are made here, as long as they must be, so that no caller meets a refusal for one.
@@ -17,6 +17,8 @@ impl std::fmt::Display for Refusal {
             6 => "an odd list of points, or more than 16,384",
             7 => "a coordinate not finite, or beyond 32,768",
             8 => "a version outside 1 to 64",
+            14 => "no PGM header (P5) within the first 4,096 bytes",
+            15 => "a PGM maximum value other than 255",
             _ => "refused",
         };
         write!(f, "{what} (refusal {})", self.0)
@@ -77,6 +79,8 @@ unsafe extern "C" {
     fn lcr_attempt(gray: *const u8, n: usize, width: usize, height: usize, points: *const f32, m: usize, most: u32,
         straight: *mut f32, a: usize, cand: *mut f32, b: usize, buf: *mut f32, c: usize, hull: *mut usize, found: *mut bool,
         quad: *mut f32, tried: *mut usize, scores: *mut f32, fix: *mut f64, fallback: *mut f64) -> u32;
+    fn lcr_pgm_read(file: *const u8, n: usize, width: *mut usize, height: *mut usize, at: *mut usize) -> u32;
+    fn lcr_pgm_write(gray: *const u8, n: usize, width: usize, height: usize, out: *mut u8, m: usize, len: *mut usize) -> u32;
 }
 
 fn told(no: u32) -> Result<(), Refusal> {
@@ -147,4 +151,22 @@ pub fn attempt(gray: &[u8], width: usize, height: usize, points: &[(f32, f32)], 
         fix: ring(&fix),
         fallback: ring(&fallback),
     })
+}
+
+/// Width, height and pixels of a PGM file (P5, maximum value 255). Bytes after the pixels are not read.
+pub fn pgm_read(file: &[u8]) -> Result<(usize, usize, &[u8]), Refusal> {
+    let (mut width, mut height, mut at) = (0, 0, 0);
+    // SAFETY: as above; `width`, `height` and `at` are one number each.
+    told(unsafe { lcr_pgm_read(file.as_ptr(), file.len(), &mut width, &mut height, &mut at) })?;
+    Ok((width, height, &file[at..at + width * height]))
+}
+
+/// The PGM file of a picture.
+pub fn pgm_write(gray: &[u8], width: usize, height: usize) -> Result<Vec<u8>, Refusal> {
+    // a header has at most 17 bytes
+    let (mut out, mut len) = (vec![0; gray.len() + 17], 0);
+    // SAFETY: as above; `len` is one number.
+    told(unsafe { lcr_pgm_write(gray.as_ptr(), gray.len(), width, height, out.as_mut_ptr(), out.len(), &mut len) })?;
+    out.truncate(len);
+    Ok(out)
 }

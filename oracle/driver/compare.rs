@@ -97,10 +97,10 @@ fn table(counts: &Counts) {
 fn reduced(area: &Area, call: &Call) -> (Vec<u32>, u64) {
     let mut differs = |args: &[u32]| (area.answer)(call.kind, args).is_some_and(|want| ours(call.kind, args) != want);
     let (mut args, mut tries) = (call.args.clone(), 0);
-    if let Some(p) = (call.kind == 604).then(|| listing::to_picture(&args)).flatten() {
+    if let Some((p, file)) = (call.kind == 604).then(|| listing::to_picture(&args)).flatten() {
         let sides = Layout::heads(3).grid(2, Unit::Byte, 1).sides(0, 1);
-        let (best, n) = smaller(&sides, &p, SMALLER / 2.0, &mut |w| differs(&listing::of_picture(w)));
-        (args, tries) = (listing::of_picture(&best), n);
+        let (best, n) = smaller(&sides, &p, SMALLER / 2.0, &mut |w| differs(&listing::of_picture(w, file)));
+        (args, tries) = (listing::of_picture(&best, file), n);
         if !differs(&args) {
             args = call.args.clone();
         }

@@ -1,6 +1,7 @@
 //! The finder's C functions of the leaves, behind safe ones; the words that each answers, as the call by number has them.
 use crate::calls::{Words, packed, singles, w32, w64};
 use crate::marks::bits;
+use crate::picture::lent8;
 
 #[rustfmt::skip]
 unsafe extern "C" {
@@ -21,7 +22,9 @@ unsafe extern "C" {
     fn lcr_with_radial(t: *mut f64, cx: f32, cy: f32, kappa: f32) -> u32;
     fn lcr_apply(t: *const f64, u: f32, v: f32, x: *mut f32, y: *mut f32) -> u32;
     fn lcr_apply_all(t: *const f64, uv: *const f32, n: usize, xy: *mut f32, m: usize) -> u32;
-    fn lcr_listing(record: *const u8, n: usize, text: *mut u8, len: *mut usize) -> u32;
+    fn lcr_listing(input: *const u8, n: usize, text: *mut u8, len: *mut usize) -> u32;
+    fn lcr_pgm_read(file: *const u8, n: usize, width: *mut usize, height: *mut usize, at: *mut usize) -> u32;
+    fn lcr_pgm_write(gray: *const u8, n: usize, width: usize, height: usize, out: *mut u8, m: usize, len: *mut usize) -> u32;
     fn lcr_classify(version: u32, lumas: *const f32, n: usize, marks: *mut bool, m: usize) -> u32;
     fn lcr_correlate(version: u32, marks: *const bool, n: usize, score: *mut f32, corner: *mut usize, reversed: *mut bool, counts: *mut u16) -> u32;
     fn lcr_refine_quad(p: *const f32, n: usize, q: *mut f32, m: usize, buf: *mut f32, k: usize) -> u32;
@@ -122,15 +125,41 @@ fn cell_words(kind: u32, args: &[u32]) -> Vec<u32> {
     }
 }
 
+/// 10604: the lines, with zeros behind them; a refused call was to leave text and length as they were.
 fn listing_words(args: &[u32]) -> Vec<u32> {
-    let record = Words(&args[1..]).bytes(args[0] as usize).unwrap();
-    let (mut text, mut len) = (vec![0u8; 512], 0);
-    let refused = unsafe { lcr_listing(record.as_ptr(), record.len(), text.as_mut_ptr(), &mut len) };
-    if refused != 0 {
+    let input = Words(&args[1..]).bytes(args[0] as usize).unwrap();
+    let lent: Vec<u8> = (0..512).map(lent8).collect();
+    let (mut text, mut len) = (lent.clone(), usize::MAX);
+    let refused = unsafe { lcr_listing(input.as_ptr(), input.len(), text.as_mut_ptr(), &mut len) };
+    if refused != 0 && text == lent && len == usize::MAX {
         text = format!("refused {refused}\n").into_bytes();
         len = text.len();
     }
-    [vec![0, len as u32], packed(&text[..len])].concat()
+    match text.split_at_checked(len) {
+        Some((lines, rest)) if rest.iter().all(|&b| b == 0) => [vec![0, len as u32], packed(lines)].concat(),
+        _ => vec![u32::MAX],
+    }
+}
+
+/// 10605: sides and place, which a refused call was to leave as they were. 10606: how many bytes, likewise, then every place.
+fn pgm_words(kind: u32, args: &[u32]) -> Vec<u32> {
+    let mut words = Words(args);
+    if kind == 10605 {
+        let [n] = words.heads().unwrap();
+        let file = words.bytes(n as usize).unwrap();
+        let mut got = [usize::MAX; 3];
+        let [w, h, at] = &mut got;
+        let refused = unsafe { lcr_pgm_read(file.as_ptr(), file.len(), w, h, at) };
+        let left = refused != 0 && got == [usize::MAX; 3];
+        return if left { vec![refused] } else { [refused].into_iter().chain(got.map(|n| n as u32)).collect() };
+    }
+    let [w, h, n, m, high_w, high_h] = words.heads().unwrap();
+    let g = words.bytes(n as usize).unwrap();
+    let side = |low: u32, high: u32| low as usize | (high as usize) << 32;
+    let (mut out, mut len): (Vec<u8>, _) = ((0..m as usize).map(lent8).collect(), usize::MAX);
+    let refused = unsafe { lcr_pgm_write(g.as_ptr(), g.len(), side(w, high_w), side(h, high_h), out.as_mut_ptr(), out.len(), &mut len) };
+    let count = if refused != 0 && len == usize::MAX { 0 } else { len as u32 };
+    [vec![refused, count], packed(&out)].concat()
 }
 
 /// Whether many places at once have the pixels that they have one by one: two places and an odd number, which is not
@@ -199,6 +228,7 @@ pub fn direct(kind: u32, args: &[u32]) -> Vec<u32> {
         10300..10400 => math_words(kind, args),
         10400..10500 => transform_words(kind, args),
         10604 => listing_words(args),
+        10605 | 10606 => pgm_words(kind, args),
         _ => marks_words(kind, args),
     }
 }

@@ -4,7 +4,7 @@ use crate::attempts;
 use crate::calls::{Area, Call, w32};
 use crate::cases::{case, outline as points_of};
 use crate::finder::{self, Grids, Ring};
-use crate::{border, finder_leaves, listing, marks, math, transform};
+use crate::{border, finder_leaves, listing, marks, math, pgm, transform};
 use crate::outline::{self, Outline};
 use crate::pic::{KINDS, Pic, Rng, draw_ring, generate};
 use crate::picture;
@@ -28,6 +28,7 @@ fn home(kind: u32) -> &'static Area {
         10300..10400 => &math::AREA,
         10400..10500 => &transform::AREA,
         10604 => &listing::AREA,
+        10605 | 10606 => &pgm::AREA,
         10700..10800 => &marks::AREA,
         _ => &outline::AREA,
     }
@@ -173,10 +174,11 @@ fn long_list(r: &mut Rng) -> Vec<f32> {
     (0..n).flat_map(|i| { let a = i as f64 * 6.283185307 / n as f64; [at(c + s * a.cos()), at(c + s * a.sin())] }).collect()
 }
 
-/// A random call of an area with cells, numbers, marks or records, by its C function.
+/// A random call of an area with cells, numbers, marks, records or files, by its C function.
 fn leaf(r: &mut Rng) -> Call {
+    let areas = [border::AREA.random, math::AREA.random, transform::AREA.random, marks::AREA.random, listing::any, pgm::AREA.random];
     loop {
-        let c = ([&border::AREA, &math::AREA, &transform::AREA, &marks::AREA, &listing::AREA][r.below(5) as usize].random)(r);
+        let c = areas[r.below(6) as usize](r);
         if ![107, 108, 701].contains(&c.kind) {
             return AREA.call(c.kind + 10000, c.args);
         }
@@ -187,7 +189,7 @@ fn random(r: &mut Rng) -> Call {
     if r.chance(0.8) {
         return leaf(r);
     }
-    match r.below(8) {
+    match r.below(9) {
         0..=2 => {
             let mut args = picture::fits(&wide(r), r.below(5) as usize);
             if r.chance(0.05) {
@@ -204,6 +206,8 @@ fn random(r: &mut Rng) -> Call {
             AREA.call(10602, [m as u32].into_iter().chain(p.into_iter().map(w32)).collect())
         }
         6 => AREA.call(10603, long_list(r).into_iter().take(2000).map(w32).collect()),
+        7 if r.chance(0.5) => AREA.call(10605, pgm::to_read(&pgm::file(&wide(r), 0, r))),
+        7 => AREA.call(10606, pgm::to_write(&wide(r), r.range(-1, 9))),
         _ => {
             let (_, c, rooms) = attempts::of(r);
             AREA.call(10910, attempts::args(&c, rooms))

@@ -1,10 +1,10 @@
-//! The tray list: records whole, damaged, cut and longer than they say; by number, and through the program.
+//! The tray list: records and PGM files, whole, damaged, cut and longer than they say; by number, and through the program.
 use crate::calls::{Area, Call, Words, packed, start};
-use crate::list;
+use crate::{list, pgm};
 use crate::pic::{self, Pic, Rng};
 use crate::smaller::{Layout, Unit};
 
-pub const AREA: Area = Area { name: "listing", stored, random: |r| listing_call(&record(r)), answer, layout: |_| Layout::heads(1).list(Some(0), Unit::Byte, 1) };
+pub const AREA: Area = Area { name: "listing", stored, random, answer, layout: |_| Layout::heads(1).list(Some(0), Unit::Byte, 1) };
 
 fn answer(_: u32, args: &[u32]) -> Option<Vec<u32>> {
     let mut w = Words(args);
@@ -13,23 +13,28 @@ fn answer(_: u32, args: &[u32]) -> Option<Vec<u32>> {
     w.ended([vec![0, text.len() as u32], packed(text.as_bytes())].concat())
 }
 
-fn listing_call(record: &[u8]) -> Call {
-    AREA.call(604, [vec![record.len() as u32], packed(record)].concat())
+fn listing_args(input: &[u8]) -> Vec<u32> {
+    [vec![input.len() as u32], packed(input)].concat()
 }
 
-/// A whole record's call in words whose sides can be cut: width, height, bytes; and back.
-pub fn to_picture(args: &[u32]) -> Option<Vec<u32>> {
+fn listing_call(input: &[u8]) -> Call {
+    AREA.call(604, listing_args(input))
+}
+
+/// A whole input's call in words whose sides can be cut: width, height, bytes; and whether it is a file.
+pub fn to_picture(args: &[u32]) -> Option<(Vec<u32>, bool)> {
     let mut w = Words(args);
     let [n] = w.heads()?;
-    let record = w.bytes(n as usize)?;
-    let (width, height, g) = list::read_record(&record, 160).ok()?;
-    Some([vec![width, height, g.len() as u32], packed(g)].concat())
+    let input = w.bytes(n as usize)?;
+    let (width, height, g) = list::read_input(&input, 160).ok()?;
+    Some(([vec![width, height, g.len() as u32], packed(g)].concat(), list::is_file(&input)))
 }
 
-pub fn of_picture(words: &[u32]) -> Vec<u32> {
+/// The call of such words.
+pub fn of_picture(words: &[u32], file: bool) -> Vec<u32> {
     let g = Words(&words[3..]).bytes(words[2] as usize).unwrap();
-    let record = Pic { w: words[0], h: words[1], g }.record();
-    [vec![record.len() as u32], packed(&record)].concat()
+    let p = Pic { w: words[0], h: words[1], g };
+    listing_args(&if file { p.file() } else { p.record() })
 }
 
 /// Squares and discs of ink in the corners and in the middle, far enough apart to be five regions: one more than are kept.
@@ -48,19 +53,19 @@ fn squares(r: &mut Rng) -> Pic {
     p
 }
 
-/// The record of a picture to try the tray list on.
+/// The PGM file of a picture to try the tray list on.
 pub fn sample() -> Vec<u8> {
-    squares(&mut Rng(7)).record()
+    squares(&mut Rng(7)).file()
 }
 
-/// A whole record of a picture at random.
-fn whole(r: &mut Rng) -> Vec<u8> {
+/// A picture at random.
+fn picture(r: &mut Rng) -> Pic {
     let most = if r.chance(0.5) { 64 } else { 160 };
     let (w, h) = (r.range(1, most) as u32, r.range(1, most) as u32);
-    if r.chance(0.1) { squares(r).record() } else { pic::generate(r.next(), w, h, r).record() }
+    if r.chance(0.1) { squares(r) } else { pic::generate(r.next(), w, h, r) }
 }
 
-/// One damage: cut, a bit of the head turned over, longer than it says, another side, a byte.
+/// One damage of a record: cut, a bit of the head turned over, longer than it says, another side, a byte.
 fn damage(b: &mut Vec<u8>, kind: u64, r: &mut Rng) {
     let at = |b: &[u8], r: &mut Rng| r.below(b.len().max(1) as u64) as usize;
     match kind {
@@ -86,9 +91,14 @@ fn damage(b: &mut Vec<u8>, kind: u64, r: &mut Rng) {
     }
 }
 
-/// A record, now and then damaged.
-fn record(r: &mut Rng) -> Vec<u8> {
-    let mut b = whole(r);
+/// A record, now and then damaged; one time in three a file.
+fn input(r: &mut Rng) -> Vec<u8> {
+    let p = picture(r);
+    if r.chance(0.34) {
+        let damages = r.chance(0.4) as u64;
+        return pgm::file(&p, damages, r);
+    }
+    let mut b = p.record();
     let kind = r.below(16);
     if kind < 7 {
         damage(&mut b, kind, r);
@@ -96,9 +106,14 @@ fn record(r: &mut Rng) -> Vec<u8> {
     b
 }
 
-/// A record with one to three damages.
+/// A record with one to three damages; one time in three a file with up to three.
 fn damaged(r: &mut Rng) -> Vec<u8> {
-    let mut b = whole(r);
+    let p = picture(r);
+    if r.chance(0.34) {
+        let damages = r.below(4);
+        return pgm::file(&p, damages, r);
+    }
+    let mut b = p.record();
     for _ in 0..r.range(1, 3) {
         let kind = if r.chance(0.5) { 6 } else { r.below(6) };
         damage(&mut b, kind, r);
@@ -106,37 +121,57 @@ fn damaged(r: &mut Rng) -> Vec<u8> {
     b
 }
 
-/// What the program at `path` prints for a record.
-fn printed(path: &str, record: &[u8]) -> Vec<u8> {
-    use std::io::Write;
-    use std::process::{Command, Stdio};
-    let mut child = Command::new(path).stdin(Stdio::piped()).stdout(Stdio::piped()).spawn().unwrap();
-    // the program may end without reading what follows the record
-    let _ = child.stdin.take().unwrap().write_all(record);
-    child.wait_with_output().unwrap().stdout
+/// A call of any input; for the C function.
+pub fn any(r: &mut Rng) -> Call {
+    listing_call(&input(r))
 }
 
-/// The program `traylist` at `path` on damaged records, its output held against the Rust's listing. Exits with 1 at the
-/// first difference, which is kept.
+/// A call by number takes up to 25,640 bytes.
+fn random(r: &mut Rng) -> Call {
+    loop {
+        let b = input(r);
+        if b.len() <= 25640 {
+            return listing_call(&b);
+        }
+    }
+}
+
+/// What the program at `path` prints for an input, which it gets as the file `at`, and how many bytes of it it has read.
+fn printed(path: &str, input: &[u8], at: &std::path::Path) -> (Vec<u8>, usize) {
+    use std::io::Seek;
+    std::fs::write(at, input).unwrap();
+    let mut file = std::fs::File::open(at).unwrap();
+    let out = std::process::Command::new(path).stdin(file.try_clone().unwrap()).output().unwrap().stdout;
+    // the program's place in the file is ours
+    (out, file.stream_position().unwrap() as usize)
+}
+
+/// The program `traylist` at `path` on damaged inputs, its output held against the Rust's listing, and how much it reads.
+/// Exits with 1 at the first difference, which is kept.
 pub fn program(path: &str, seed: u64, n: u64) {
-    let (mut refused, mut regions) = (0u64, [0u64; 5]);
+    let at = std::env::temp_dir().join(format!("lcr-input-{}", std::process::id()));
+    let (mut files, mut refused, mut regions) = (0u64, 0u64, [0u64; 5]);
     for i in 0..n {
         let b = damaged(&mut start(seed, i));
-        let (got, want) = (printed(path, &b), list::listing(&b));
-        if got != want.as_bytes() {
-            println!("traylist differs at seed {seed} record {i}\n  Rust   {want:?}\n  finder {:?}", String::from_utf8_lossy(&got));
-            let file = format!("{}/traylist-{seed}.record", std::env::var("LCR_FAILING").unwrap_or(".".into()));
+        let ((got, read), want) = (printed(path, &b, &at), list::listing(&b));
+        if got != want.as_bytes() || read != list::eaten(&b) {
+            println!("traylist differs at seed {seed} input {i}\n  Rust   {want:?}\n  finder {:?}", String::from_utf8_lossy(&got));
+            println!("of {} bytes {} are to be read, and {read} are", b.len(), list::eaten(&b));
+            let file = format!("{}/traylist-{seed}.input", std::env::var("LCR_FAILING").unwrap_or(".".into()));
             let _ = std::fs::create_dir_all(std::path::Path::new(&file).parent().unwrap());
             println!("kept as {file}: {:?}", std::fs::write(&file, &b));
             std::process::exit(1);
         }
+        files += list::is_file(&b) as u64;
         refused += want.starts_with("refused") as u64;
         regions[want.matches("region ").count()] += 1;
     }
-    println!("traylist: {n} damaged records from seed {seed}, {refused} refused, {} listed, with 1 to 4 kept regions {:?}: 0 different", n - refused, &regions[1..]);
+    let _ = std::fs::remove_file(&at);
+    let listed = n - refused;
+    println!("traylist: {n} damaged inputs from seed {seed}, {files} of them PGM files, {refused} refused, {listed} listed, with 1 to 4 kept regions {:?}: 0 different", &regions[1..]);
 }
 
-/// Document 01's example, each damage of its record, and pictures of every kind.
+/// Document 01's example, each damage of its record, pictures of every kind, and files.
 fn stored() -> Vec<Call> {
     let mut o = Vec::new();
     let mut r = Rng(21);
@@ -164,5 +199,6 @@ fn stored() -> Vec<Call> {
     for _ in 0..12 {
         o.push(listing_call(&squares(&mut r).record()));
     }
+    o.extend(pgm::chosen(&example).iter().map(|b| listing_call(b)));
     o
 }

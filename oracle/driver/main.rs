@@ -16,6 +16,7 @@ mod looks;
 mod marks;
 mod math;
 mod outline;
+mod pgm;
 mod pic;
 mod picture;
 mod ring;

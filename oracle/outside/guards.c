@@ -6,7 +6,8 @@
  * begins, and once begins where one ends. A touch outside ends the program; so does the first of these that
  * fails, with 1 and the call's seed:
  *   the result and what every list holds afterwards are equal in both (a NaN equals a NaN);
- *   the result is the refusal that document 01's table has for these sizes and numbers, or none where it has none;
+ *   the result is the refusal that document 01's table, for PGM files its change request, has for these sizes, numbers
+ *   and bytes, or none where there is none; what is read of a PGM file, and written, is what was made;
  *   lists that are only read are as before, on a refusal or LCR_NONE all lists are;
  *   in an accepted call the places past those needed are as before.
  *
@@ -421,7 +422,86 @@ static uint32_t make_median(void) {
 }
 static uint32_t call_median(void) { return lcr_median(at(0), len(0), at(1)); }
 
+/* ---- PGM files: the header is made here, so that what is wrong with it is known */
+
+static uint8_t header[12000];
+static size_t head, plain[12000], plains; /* bytes of the header; the places that are not of a comment, and how many */
+
+/* A byte of the header, after comments where there are any. */
+static void put(int c, int comments) {
+    while (comments && head < 10000 && odds(6)) {
+        header[head++] = '#';
+        for (size_t k = below(9); k > 0; k--) header[head++] = (uint8_t)"#5 \tx\377"[below(6)];
+        header[head++] = (uint8_t)"\r\n"[below(2)];
+    }
+    plain[plains++] = head;
+    header[head++] = (uint8_t)c;
+}
+static int space(void) { return " \r\n\t\v\f"[below(6)]; }
+static void put_number(size_t n, int comments) {
+    char text[24];
+    size_t spaces = odds(60) ? 4050 + below(40) : odds(3) ? 1 + below(4) : 1, zeros = odds(60) ? 4050 + below(40) : odds(3) ? below(4) : 0;
+    if (head + spaces + zeros > 4500) spaces = 1, zeros = 0;
+    for (; spaces > 0; spaces--) put(space(), comments && spaces < 9);
+    for (; zeros > 0; zeros--) put('0', comments && zeros < 9);
+    snprintf(text, sizeof text, "%zu", n);
+    for (const char *c = text; *c; c++) put(*c, comments);
+}
+/* A file as list 0, now and then cut or broken behind its letters; its refusal, where a side over `limit` is refused by 13. */
+static uint32_t make_file(size_t most, size_t limit) {
+    size_t maximum = odds(20) ? odds(4) ? 0 : below(70000) : 255;
+    int comments = odds(2), broken = odds(15);
+    w = side_of(odds(20) ? 4096 : most), h = side_of(most);
+    head = plains = 0;
+    put('P', 0), put('5', 0);
+    put_number(w, comments), put_number(h, comments), put_number(maximum, comments), put(space(), comments);
+    if (broken) header[plain[2 + below(plains - 2)]] = (uint8_t)"x-./:\0\205\240"[below(8)];
+    size_t n = w * h > 200000 ? below(500) : w * h;
+    n = odds(15) ? below(head + n) : head + n + (odds(3) ? below(9) : 0);
+    uint8_t *f = add(n, 1, 0, 0);
+    if (odds(2)) paint(f, n, w);
+    memcpy(f, header, n < head ? n : head);
+    if (broken || n < head || head > 4096) return LCR_HEADER;
+    if (maximum != 255) return LCR_MAXIMUM;
+    if (picture_check(w * h, w, h)) return LCR_SIDE;
+    return w > limit || h > limit ? LCR_RECORD : n - head < w * h ? LCR_BYTES : LCR_OK;
+}
+static uint32_t make_read(void) {
+    uint32_t no = make_file(200, 4096);
+    for (int i = 0; i < 3; i++) add(1, sizeof(size_t), 1, 0);
+    if (len(0) && odds(20)) *list[0].before ^= 1, no = LCR_HEADER;
+    return no;
+}
+static uint32_t call_read(void) {
+    size_t *got[3] = {at(1), at(2), at(3)};
+    uint32_t r = lcr_pgm_read(at(0), len(0), got[0], got[1], got[2]);
+    if (r == LCR_OK && (*got[0] != w || *got[1] != h || *got[2] != head)) fail("other sides or pixels", 0);
+    return r;
+}
+static uint32_t make_write(void) {
+    gray(200, &w, &h);
+    head = (size_t)snprintf((char *)header, sizeof header, "P5\n%zu\n%zu\n255\n", w, h);
+    size_t n = head + len(0);
+    add(near(n), 1, 1, 0), add(1, sizeof(size_t), 1, 0);
+    list[1].need = n;
+    uint32_t no = picture_check(len(0), w, h);
+    return no ? no : len(1) < n ? LCR_LENT : LCR_OK;
+}
+static uint32_t call_write(void) {
+    uint8_t *out = at(1);
+    size_t *n = at(2);
+    uint32_t r = lcr_pgm_write(at(0), len(0), w, h, out, len(1), n);
+    if (r == LCR_OK && (*n != head + len(0) || memcmp(out, header, head) || memcmp(out + head, at(0), len(0)))) fail("another file", 1);
+    return r;
+}
+
+static uint32_t make_tray_file(void) {
+    uint32_t no = make_file(160, 160);
+    add(LCR_TEXT, 1, 1, 0), add(1, sizeof(size_t), 1, 0);
+    return len(0) < 2 ? LCR_RECORD : no;
+}
 static uint32_t make_listing(void) {
+    if (odds(3)) return make_tray_file();
     size_t a = 1 + below(odds(4) ? 160 : 60), b = 1 + below(odds(4) ? 160 : 60), rest = 6 + a * b;
     size_t n = odds(12) ? below(4 + rest) : 4 + rest + (odds(3) ? below(9) : 0), kind = odds(20) ? below(4) : 1;
     uint32_t said = (uint32_t)(odds(20) ? rest + below(3) : rest);
@@ -451,6 +531,7 @@ static const struct {
     {"lcr_apply", make_map, call_apply}, {"lcr_apply_all", make_map_all, call_apply_all},
     {"lcr_solve", make_solve, call_solve}, {"lcr_least_squares", make_fit, call_fit},
     {"lcr_median", make_median, call_median}, {"lcr_mad_sigma", make_values, call_sigma},
+    {"lcr_pgm_read", make_read, call_read}, {"lcr_pgm_write", make_write, call_write},
     {"lcr_listing", make_listing, call_listing},
 };
 

@@ -1,38 +1,55 @@
--- Checks in order, and those of a picture with those that follow them: check-on where they pass, check-off where one refuses; check-step:
--- a check that passed, and those after it; side-in: what a side's check tells. Assumes nothing.
+-- Checks in order. As a function of what follows them: Gate, with gate-open, no check, and gate-check, one check more, and gate-zero; those of a
+-- picture:
+-- check-on where they pass, check-off where one refuses. check-step: a check that passed, and those after it; side-in: what a side's
+-- check tells. Assumes nothing.
 use mathlib.Core.Bool.{Bool, false, true}
-use mathlib.Core.Path.{_≡_, refl}
-use Prim.Native.Nat.{ℕ, _*_, _≤_, _<_}
+use mathlib.Core.Path.{_≡_, refl, sym}
+use Prim.Native.Nat.{ℕ, zero, suc, _*_, _≤_, _<_}
 use native.Mathlib.Omega.{arith}
-use lib.Dec.{eqb, leb}
+use lib.Dec.{eqb, leb, lit<}
 use borrow.Author.Tests.{leb-true}
 use Rattle.laws.proofs.Bools.{and-left, and-right}
 use Rattle.laws.specs.Check.{orRefuse}
 use Rattle.checks.specs.Picture.{isSide, checkPicture}
 
-abbrev chain : Bool → Bool → Bool → ℕ → ℕ
-chain a b c n = orRefuse a 1 (orRefuse b 1 (orRefuse c 2 n))
+-- ---- checks as a function of what follows them
+-- Where they pass, what follows counts; else it does not matter.
+pub record Gate (f : ℕ → ℕ) : Type 0 where
+  pub on : f 0 ≡ 0 → (rest : ℕ) → f rest ≡ rest
+  pub off : (f 0 ≡ 0 → ⊥) → (rest : ℕ) → f rest ≡ f 0
+
+pub gate-open : Gate (λ rest. rest)
+gate-open = record { on = λ e rest. refl; off = λ e rest. absurd (e refl) }
+
+pub gate-check : (b : Bool) (n : ℕ) {f : ℕ → ℕ} → 0 < n → Gate f → Gate (λ rest. orRefuse b n (f rest))
+gate-check true n l g = record { on = g .on; off = g .off }
+gate-check false n l g = record { on = λ e rest. absurd (none n l e); off = λ e rest. refl }
+  where
+    none : (n : ℕ) → 0 < n → n ≡ 0 → ⊥
+    none n l e = omega arith
+
+-- what follows is no refusal: nor are they
+pub gate-zero : {f : ℕ → ℕ} → Gate f → (rest : ℕ) → f rest ≡ 0 → f 0 ≡ 0
+gate-zero {f} g rest e = go (f 0) refl
+  where
+    go : (n : ℕ) → f 0 ≡ n → f 0 ≡ 0
+    go zero q = q
+    go (suc n) q = absurd (omega (arith, q, e, g .off (λ z. omega (arith, z, q)) rest))
+
+-- ---- the checks of a picture
+picture-gate : (w h bytes : ℕ) → Gate (checkPicture w h bytes)
+picture-gate w h bytes =
+    gate-check (isSide w) 1 (lit< tt) (gate-check (isSide h) 1 (lit< tt) (gate-check (eqb bytes (w * h)) 2 (lit< tt) gate-open))
 
 -- no refusal by the picture's own checks: what follows them counts
 pub check-on : (w h bytes rest : ℕ) → checkPicture w h bytes 0 ≡ 0 → checkPicture w h bytes rest ≡ rest
-check-on w h bytes rest on = go (isSide w) (isSide h) (eqb bytes (w * h)) on
-  where
-    go : (a b c : Bool) → chain a b c 0 ≡ 0 → chain a b c rest ≡ rest
-    go false b c on = absurd (omega arith)
-    go true false c on = absurd (omega arith)
-    go true true false on = absurd (omega arith)
-    go true true true on = refl
+check-on w h bytes rest on = picture-gate w h bytes .on on rest
 
 -- a refusal by the picture's own checks, whatever follows them
 pub check-off : (w h bytes rest : ℕ) → (checkPicture w h bytes 0 ≡ 0 → ⊥) → checkPicture w h bytes 0 ≡ checkPicture w h bytes rest
-check-off w h bytes rest off = go (isSide w) (isSide h) (eqb bytes (w * h)) off
-  where
-    go : (a b c : Bool) → (chain a b c 0 ≡ 0 → ⊥) → chain a b c 0 ≡ chain a b c rest
-    go false b c off = refl
-    go true false c off = refl
-    go true true false off = refl
-    go true true true off = absurd (off refl)
+check-off w h bytes rest off = sym (picture-gate w h bytes .off off rest)
 
+-- ---- check by check
 -- a check that passed, and the checks after it
 pub check-step : (b : Bool) (n rest : ℕ) → 0 < n → orRefuse b n rest ≡ 0 → (b ≡ true) × (rest ≡ 0)
 check-step true n rest l e = (refl, e)

@@ -8,6 +8,7 @@
 // called then.
 pub mod cells;
 pub mod equations;
+pub mod files;
 pub mod listings;
 pub mod maps;
 pub mod outlines;

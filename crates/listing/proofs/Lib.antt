@@ -2,7 +2,6 @@ pub mod Numbers
 pub mod Outlines
 pub mod Pieces
 pub mod Lengths
-pub mod Records
 pub mod Pictures
 pub mod Texts
 pub mod Readings

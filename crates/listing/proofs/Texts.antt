@@ -1,15 +1,12 @@
--- The text of a picture and of a record. Kept regions: first-none, first-more, first-room. The picture: picture-taken, kept-few,
--- text-stored, text-short.
--- The record: check-most, text-refused, text-accepted; a text in its place, filled-is. Assumes nothing.
+-- The text of a picture and of an input. Kept regions: first-none, first-more, first-room. The picture: picture-taken, kept-few,
+-- text-stored, text-short. The input: text-refused, refused-short, input-tray, text-accepted; a text in its place, filled-is. Assumes
+-- nothing.
 use mathlib.Core.Path.{_≡_, refl, sym, ap, ap₂, _∙_, subst}
-use mathlib.Core.Bool.{Bool, true, false}
 use mathlib.Core.List.{List, [], _∷_, _++_}
 use Prim.Native.Nat.{ℕ, zero, suc, _+_, _-_, _*_, _≤_, _<_}
 use native.Mathlib.Numerals.{add-one}
 use native.Mathlib.Omega.{arith}
-use lib.Dec.{leb, eqb}
-use lib.ListN.{length, getD, take, drop, replicate, length-append, length-replicate}
-use Rattle.laws.specs.Check.{orRefuse}
+use lib.ListN.{length, getD, take, drop, replicate, length-take, length-drop, length-append, length-replicate}
 use Rattle.laws.specs.Plane.{Plane, plane}
 use Rattle.regions.specs.Cells.{cellsOf, groupsOf}
 use Rattle.regions.specs.Kept.{keptCount}
@@ -20,15 +17,17 @@ use Rattle.regions.specs.declared.answer.PictureAnswer.{PictureAnswer}
 use Rattle.laws.specs.Fold.{joined}
 use Rattle.laws.proofs.Joined.{joined-more}
 use Rattle.text.specs.Text.{lineOf, refusedWord}
+use Rattle.pgm.specs.declared.File.the-variants.{Picture, Refused}
+use Rattle.tray.specs.Input.{inputPixels, inputAnswer}
+use Rattle.tray.proofs.Inputs.{picture-same, input-picture, input-number}
 use Rattle.listing.specs.Listing.{regionsWord}
-use Rattle.listing.specs.Listing.{pairAt, fourAt, widthOf, heightOf, pixelsOf, isTraySide, checkRecord, regionLines, firstLines}
+use Rattle.listing.specs.Listing.{regionLines, firstLines}
 use Rattle.listing.specs.Listing.{pictureText, textBy, textOf, filled}
 use Rattle.laws.specs.Lent.{Stored}
 use Rattle.listing.specs.Inner.{TrayPicture, TrayRegion}
 use Rattle.laws.proofs.Stores.{stored-none, stored-append, stored-ext, stored-length, stored-laid}
 use Rattle.listing.proofs.Numbers.{line-short}
 use Rattle.listing.proofs.Pieces.{one-short, two-short}
-use Rattle.listing.proofs.Records.{pixels-are}
 use Rattle.regions.proofs.Inside.{groups-le}
 use Rattle.listing.proofs.Pictures.{cells-few, picture-passes, kept-four, listed, tray-region, region-lines-short}
 
@@ -136,32 +135,49 @@ picture-taken s w h t a e =
     taken a (checkGrids w h (length s) 100 400 400) (keptRegions (plane w s) w h) e
     (picture-passes s w h t 100 400 400 (omega arith) (omega arith) (omega arith))
 
--- ---- the record
-most : (b : Bool) (rest : ℕ) → rest ≤ 13 → orRefuse b 13 rest ≤ 13
-most true rest l = l
-most false rest l = omega arith
-
-pub check-most : (s : List ℕ) → checkRecord s ≤ 13
-check-most s =
-    most (leb 10 (length s)) _ (most (eqb (pairAt s 4) 1) _ (most (isTraySide (widthOf s)) _ (most (isTraySide (heightOf s)) _
-    (most (eqb (fourAt s 0) (6 + widthOf s * heightOf s)) _ (most (leb (10 + widthOf s * heightOf s) (length s)) 0 (omega arith))))))
-
-pub text-refused : (s : List ℕ) (n : ℕ) → n ≡ checkRecord s → (n ≡ 0 → ⊥) → lineOf refusedWord (n ∷ []) ≡ textOf s
+-- ---- the input
+pub text-refused : (s : List ℕ) (n : ℕ) → inputAnswer s ≡ Refused n → lineOf refusedWord (n ∷ []) ≡ textOf s
 unfolding textOf
-text-refused s n e z = refused n z ∙ ap (λ (m : ℕ). textBy m s) e
+text-refused s n e = let q = input-number s n e in refused n (q .1 .0) ∙ ap (λ (m : ℕ). textBy m s) (q .0)
   where
     refused : (n : ℕ) → (n ≡ 0 → ⊥) → lineOf refusedWord (n ∷ []) ≡ textBy n s
     refused zero z = absurd (z refl)
     refused (suc n) z = unfold textBy in refl
 
-pub text-accepted : (s : List ℕ) (w h : ℕ) → checkRecord s ≡ 0 → w ≡ widthOf s → h ≡ heightOf s
-    → pictureText (plane w (take (10 + w * h - 10) (drop 10 s))) w h ≡ textOf s
-unfolding textOf
-text-accepted s w h z ew eh =
-    ap (λ (l : List ℕ). pictureText (plane w l) w h) (pixels-are s (w * h))
-    ∙ ap₂ (λ (x y : ℕ). pictureText (plane x (take (x * y) (drop 10 s))) x y) ew eh
-    ∙ unfold textBy in refl
-    ∙ ap (λ (m : ℕ). textBy m s) (sym z)
+pub refused-short : (s : List ℕ) (n : ℕ) → inputAnswer s ≡ Refused n → (n < 1000) × (length (lineOf refusedWord (n ∷ [])) ≤ 512)
+refused-short s n e =
+    let few : n < 1000 = omega (arith, input-number s n e .1 .1) in
+    (few, omega (arith, line-short refusedWord (n ∷ []) (one-short n few)))
+
+-- the pixels of an input as a part of it
+module _ (s : List ℕ) (w h at : ℕ) (e : inputAnswer s ≡ Picture w h at) where
+  abbrev pub partOf : List ℕ
+  partOf = take (at + w * h - at) (drop at s)
+
+  part-is : partOf ≡ take (w * h) (drop at s)
+  part-is = let z : at + w * h - at ≡ w * h = omega arith in ap (λ (k : ℕ). take k (drop at s)) z
+
+  pub input-tray : TrayPicture partOf w h
+  input-tray =
+      let a = input-picture s w h at e in
+      record {
+        bytes = ap length part-is ∙ part (w * h) (a .within);
+        someWide = a .someWide;
+        wide = a .wide;
+        someHigh = a .someHigh;
+        high = a .high;
+      }
+    where
+      part : (n : ℕ) → at + n ≤ length s → length (take n (drop at s)) ≡ n
+      part n l = simp (length-take, length-drop) (omega arith)
+
+  pub text-accepted : pictureText (plane w partOf) w h ≡ textOf s
+  unfolding textOf
+  text-accepted =
+      let q = picture-same s w h at e in
+      ap (λ (l : List ℕ). pictureText (plane w l) w h) part-is
+      ∙ rw (q .w-is, q .h-is, q .at-is) (unfold textBy inputPixels in refl)
+      ∙ ap (λ (m : ℕ). textBy m s) (sym (q .no-refusal))
 
 -- a text that begins 512 bytes of zeros
 pub filled-is : {l′ : List ℕ} {r : ℕ} (u v : List ℕ) → u ≡ v → length u ≤ 512 → Stored 0 u (replicate 512 0) l′ r

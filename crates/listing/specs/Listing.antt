@@ -1,11 +1,8 @@
--- The tray list of a record, as document 01 has it under "traylist": the refusal of a bad record, or the listing of a picture over the
--- definitions of the picture door, the outline door, hull and quad. Definitions only. Assumes nothing.
-use mathlib.Core.Bool.{Bool, _&&_, cond}
+-- The tray list, as document 01 has it under "traylist": the refusal of a bad input, or the listing of its picture over the definitions
+-- of the picture door, the outline door, hull and quad. Definitions only. Assumes nothing.
 use mathlib.Core.List.{List, [], _∷_, _++_}
-use Prim.Native.Nat.{ℕ, zero, suc, _+_, _*_}
-use lib.Dec.{leb, eqb}
-use lib.ListN.{length, getD, take, drop, replicate}
-use Rattle.laws.specs.Check.{orRefuse}
+use Prim.Native.Nat.{ℕ, zero, suc}
+use lib.ListN.{length, getD, drop, replicate}
 use Rattle.laws.specs.Plane.{Plane, plane}
 use Rattle.regions.specs.Door.{noRegion, keptRegions}
 use Rattle.regions.specs.declared.answer.Region.{Region}
@@ -16,48 +13,7 @@ use Rattle.boundary.specs.Boundary.{isMember, boundary}
 use Rattle.laws.specs.Fold.{joined}
 use Rattle.outline.specs.Door.{boxAt}
 use Rattle.text.specs.Text.{lineOf, refusedWord, quadWord, noneWord}
-
--- ---- the record: four-byte length of the rest, two-byte kind, two-byte width and height, pixels; lowest byte first
--- The numbers of two and of four bytes from place i on.
-abbrev pub pairAt : List ℕ → ℕ → ℕ
-pairAt s i = getD s i 0 + 256 * getD s (i + 1) 0
-
-abbrev pub fourAt : List ℕ → ℕ → ℕ
-fourAt s i = pairAt s i + 65536 * pairAt s (i + 2)
-
-abbrev pub widthOf : List ℕ → ℕ
-widthOf s = pairAt s 6
-
-abbrev pub heightOf : List ℕ → ℕ
-heightOf s = pairAt s 8
-
-abbrev pub pixelsOf : List ℕ → List ℕ
-pixelsOf s = take (widthOf s * heightOf s) (drop 10 s)
-
--- A side of the picture of a record lies in 1..160.
-abbrev pub isTraySide : ℕ → Bool
-isTraySide n = leb 1 n && leb n 160
-
--- 13: record short, length not 6 + width × height, kind not 1, a side outside 1..160. 0: no refusal.
-abbrev pub checkRecord : List ℕ → ℕ
-checkRecord s =
-    orRefuse (leb 10 (length s)) 13
-    (orRefuse (eqb (pairAt s 4) 1) 13
-    (orRefuse (isTraySide (widthOf s)) 13
-    (orRefuse (isTraySide (heightOf s)) 13
-    (orRefuse (eqb (fourAt s 0) (6 + widthOf s * heightOf s)) 13
-    (orRefuse (leb (10 + widthOf s * heightOf s) (length s)) 13
-    0)))))
-
--- The ten bytes of a head pass all checks but that the pixels are there.
-abbrev pub isHead : List ℕ → Bool
-isHead s =
-    leb 10 (length s)
-    && (eqb (pairAt s 4) 1 && (isTraySide (widthOf s) && (isTraySide (heightOf s) && eqb (fourAt s 0) (6 + widthOf s * heightOf s))))
-
--- How many bytes of pixels a head asks for; one that is refused asks for none.
-abbrev pub asked : List ℕ → ℕ
-asked head = cond (isHead head) (widthOf head * heightOf head) 0
+use Rattle.tray.specs.Input.{checkInput, inputWidth, inputHeight, inputPixels}
 
 -- ---- the words
 -- regions
@@ -101,13 +57,13 @@ unfoldable pub pictureText : Plane → ℕ → ℕ → List ℕ
 pictureText p w h =
     lineOf regionsWord (keptRegions p w h .all ∷ keptRegions p w h .kept ∷ []) ++ firstLines p w h (keptRegions p w h .kept)
 
--- The listing of a record that is refused with the number n; 0 is no refusal.
+-- The listing of an input that is refused with the number n; 0 is no refusal.
 unfoldable pub textBy : ℕ → List ℕ → List ℕ
-textBy zero s = pictureText (plane (widthOf s) (pixelsOf s)) (widthOf s) (heightOf s)
+textBy zero s = pictureText (plane (inputWidth s) (inputPixels s)) (inputWidth s) (inputHeight s)
 textBy (suc n) s = lineOf refusedWord (suc n ∷ [])
 
 unfoldable pub textOf : List ℕ → List ℕ
-textOf s = textBy (checkRecord s) s
+textOf s = textBy (checkInput s) s
 
 -- 512 bytes that begin with a text, zeros after it.
 abbrev pub filled : List ℕ → List ℕ

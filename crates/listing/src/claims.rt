@@ -1,8 +1,7 @@
 // Theorems, as functions with an empty body: each `ensures` is the statement.
 ghost use Rattle.listing.specs.Claims.{ReadEnough};
 
-// Ten bytes and as many more as these ask for have the text of the whole input, and nothing past an
-// accepted record is among them.
+// What the tray list reads of an input has the text of the whole input.
 pub fn read_enough()
     ensures { λ _. ⌜ ReadEnough ⌝ }
 {}

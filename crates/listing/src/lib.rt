@@ -1,5 +1,6 @@
-// The tray list: the listing of the picture of a record, as text. Everything but reading and
-// writing.
+// The tray list: the listing of the picture of a PGM file or a record, as text. Everything but
+// reading and writing.
+use pgm::File;
 ghost use mathlib.Core.Path.{_≡_};
 ghost use Prim.Native.Nat.{_≤_};
 ghost use lib.ListN.{length};
@@ -8,7 +9,6 @@ ghost use Rattle.listing.specs.Listing.{textOf, filled};
 pub mod claims;
 mod describe;
 mod lines;
-pub mod record;
 
 // A listing: its bytes, with zeros after them, and how many there are.
 pub struct Printed {
@@ -16,26 +16,22 @@ pub struct Printed {
     pub len: usize,
 }
 
-// The listing of a record. Bytes after the record do not matter.
+// The listing of a PGM file or a record. Bytes after the pixels do not matter.
 pub fn listing(input: &[u8]) -> Printed
     ensures { λ r. ⌜ r .bytes ≡ filled (textOf (now (input .entry))) ⌝ }
     ensures { λ r. ⌜ r .len ≡ length (textOf (now (input .entry))) ⌝ }
     ensures { λ r. ⌜ r .len ≤ 512 ⌝ }
 {
     let mut bytes = [0u8; 512];
-    let n = record::check(input);
-    if n != 0 {
-        let end = lines::line(&mut bytes, 0, b"refused", &[n]);
-        return Printed {
-            bytes: bytes,
-            len: end,
-        };
-    }
-    let w = record::pair_at(input, 6);
-    let h = record::pair_at(input, 8);
-    let end = describe::picture_text(&input[10..10 + w * h], w, h, &mut bytes);
+    let len = match tray::find(input) {
+        File::Refused(n) => lines::line(&mut bytes, 0, b"refused", &[n]),
+        File::Picture(w, h, at) => {
+            let end = at + w * h;
+            describe::picture_text(&input[at..end], w, h, &mut bytes)
+        }
+    };
     Printed {
         bytes: bytes,
-        len: end,
+        len: len,
     }
 }

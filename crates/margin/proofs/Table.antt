@@ -1,11 +1,10 @@
 -- The f32 rule of the margin is a quotient of whole numbers, at every contrast from 80 and every light: one test that antt computes over
 -- all 15,576 pairs, a contrast after the other, in eight parts of about as many pairs each.
 --
--- In order: a test that holds at every number below a bound; the test of one pair, of a contrast, of a run of contrasts; the eight parts;
+-- In order: the test of one pair, of a contrast, of a run of contrasts; the eight parts;
 -- margin-is. Assumes nothing.
 use mathlib.Core.Path.{_≡_, refl, sym, ap, _∙_}
-use mathlib.Core.Logic.{⊎-elim}
-use mathlib.Core.Bool.{Bool, true, _&&_}
+use mathlib.Core.Bool.{Bool, true}
 use Prim.Native.Nat.{ℕ, zero, suc, _+_, _-_, _*_, _/_, _≤_, _<_}
 use native.Mathlib.Omega.{arith}
 use native.Mathlib.Decide.{decLt}
@@ -14,22 +13,8 @@ use lib.IntN.{pos}
 use lib.Ieee
 use lib.Ieee.{Float, binary32}
 use borrow.Author.Tests.{eqb-true}
-use Rattle.laws.proofs.Bools.{and-left, and-right, at-or-below}
+use Rattle.laws.proofs.Bools.{holds, holds-at}
 use Rattle.margin.specs.Threshold.{share, margin}
-
--- the test holds at each number below n
-holds : ℕ → (ℕ → Bool) → Bool
-holds zero test = true
-holds (suc n) test = test n && holds n test
-
-holds-at : (n : ℕ) (test : ℕ → Bool) → holds n test ≡ true → (k : ℕ) → k < n → test k ≡ true
-unfolding holds
-holds-at zero test all k below = absurd (omega arith)
-holds-at (suc n) test all k below =
-    ⊎-elim
-    (λ last. ap test last ∙ and-left (test n) (holds n test) all)
-    (λ less. holds-at n test (and-right (test n) (holds n test) all) k less)
-    (at-or-below k n below)
 
 -- one pair, with 0.2 × contrast handed in; every light from c on; n contrasts from a on
 pair : Float → ℕ → ℕ → Bool

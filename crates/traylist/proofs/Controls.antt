@@ -6,6 +6,8 @@ use Prim.Native.Nat.{ℕ}
 use Rattle.hull.specs.Points.{numbersOf}
 use Rattle.text.specs.Text.{spelt, decimal, spaced, lineOf, quadWord}
 use Rattle.listing.specs.Listing.{regionsWord, regionWord, outlineWord}
+use Rattle.pgm.specs.Form.{hasLetters}
+use Rattle.tray.specs.Input.{checkInput}
 use Rattle.listing.specs.Listing.{quadLine, textBy, textOf}
 
 -- regions 1 1
@@ -42,11 +44,11 @@ none-line = refl
 -- refused 13: no bytes, and a head without its pixels
 short-record : textOf []
     ≡ 114 ∷ 101 ∷ 102 ∷ 117 ∷ 115 ∷ 101 ∷ 100 ∷ 32 ∷ 49 ∷ 51 ∷ 10 ∷ []
-unfolding textOf textBy lineOf spaced decimal spelt
+unfolding textOf textBy checkInput hasLetters lineOf spaced decimal spelt
 short-record = refl
 
 -- the same
 cut-record : textOf (7 ∷ 0 ∷ 0 ∷ 0 ∷ 1 ∷ 0 ∷ 1 ∷ 0 ∷ 1 ∷ 0 ∷ [])
     ≡ 114 ∷ 101 ∷ 102 ∷ 117 ∷ 115 ∷ 101 ∷ 100 ∷ 32 ∷ 49 ∷ 51 ∷ 10 ∷ []
-unfolding textOf textBy lineOf spaced decimal spelt
+unfolding textOf textBy checkInput hasLetters lineOf spaced decimal spelt
 cut-record = refl

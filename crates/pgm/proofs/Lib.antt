@@ -1,0 +1,16 @@
+pub mod Walk
+pub mod Chain
+pub mod Beside
+pub mod Gates
+pub mod Heads
+pub mod Numbers
+pub mod Arms
+pub mod Runs
+pub mod Refusals
+pub mod Writes
+pub mod Longer
+pub mod Accepted
+pub mod Back
+pub mod Rewriting
+pub mod Counted
+pub mod Controls

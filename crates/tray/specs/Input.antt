@@ -1,0 +1,66 @@
+-- What the tray list takes, as change request W1 has it: a PGM file where the input begins with the letters P5, else a record; and how
+-- much of it the program reads. Definitions only. Assumes nothing.
+use mathlib.Core.Bool.{cond}
+use mathlib.Core.List.{List}
+use Prim.Native.Nat.{ℕ, _+_, _*_, _≤_}
+use lib.Dec.{leb, eqb}
+use lib.ListN.{take, drop}
+use Rattle.laws.specs.Check.{orRefuse}
+use Rattle.pgm.specs.Form.{hasLetters, fileWidth, fileHeight, fileStart}
+use Rattle.pgm.specs.Doors.{checkHeader, checkPixels, found}
+use Rattle.pgm.specs.Steps.{begun, stepsOver}
+use Rattle.pgm.specs.Head.{checkHead}
+use Rattle.pgm.specs.declared.File.{File}
+use Rattle.pgm.specs.declared.steps.Reading.{Reading}
+use Rattle.tray.specs.Record.{widthOf, heightOf, checkRecord, asked}
+
+-- 13: a side over 160. What follows is `rest`.
+abbrev pub checkSides : ℕ → ℕ → ℕ → ℕ
+checkSides w h rest =
+    orRefuse (leb w 160) 13
+    (orRefuse (leb h 160) 13
+    rest)
+
+-- The checks of a file: 14, 15 and 1, then 13, then 2.
+unfoldable pub checkTrayFile : List ℕ → ℕ
+checkTrayFile s = checkHeader s (checkSides (fileWidth s) (fileHeight s) (checkPixels s))
+
+-- ---- the input, of either kind
+unfoldable pub checkInput : List ℕ → ℕ
+checkInput s = cond (hasLetters s) (checkTrayFile s) (checkRecord s)
+
+unfoldable pub inputWidth : List ℕ → ℕ
+inputWidth s = cond (hasLetters s) (fileWidth s) (widthOf s)
+
+unfoldable pub inputHeight : List ℕ → ℕ
+inputHeight s = cond (hasLetters s) (fileHeight s) (heightOf s)
+
+-- The place of the pixels.
+unfoldable pub inputStart : List ℕ → ℕ
+inputStart s = cond (hasLetters s) (fileStart s) 10
+
+unfoldable pub inputPixels : List ℕ → List ℕ
+inputPixels s = take (inputWidth s * inputHeight s) (drop (inputStart s) s)
+
+-- The answer for the number of a refusal, or the sides and the place of the pixels.
+unfoldable pub inputAnswer : List ℕ → File
+inputAnswer s = found (checkInput s) (inputWidth s) (inputHeight s) (inputStart s)
+
+-- ---- how much is read
+-- The header of a file, read byte by byte until it has ended.
+abbrev pub headRead : List ℕ → Reading
+headRead s = stepsOver begun (drop 2 s)
+
+-- How many bytes of pixels a header asks for; one that is refused asks for none.
+unfoldable pub askedBy : Reading → ℕ
+askedBy h = cond (eqb (checkHead h (checkSides (h .width) (h .height) 0)) 0) (h .width * h .height) 0
+
+-- How many bytes of an input the tray list reads at most: a file's header, then its pixels; the ten bytes of a record's head, then its
+-- pixels.
+unfoldable pub reads : List ℕ → ℕ
+reads s = cond (hasLetters s) (headRead s .at + askedBy (headRead s)) (10 + asked (take 10 s))
+
+-- What passed checks of a header's sides tell.
+pub record Small (h : Reading) : Type 0 where
+  pub wide : h .width ≤ 160
+  pub high : h .height ≤ 160
