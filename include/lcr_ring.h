@@ -203,12 +203,14 @@ uint32_t lcr_find(const uint8_t *gray, size_t gray_len, size_t width, size_t hei
  *   gray to buf     as lcr_find has them
  *   many       out: how many tags, 0 to 4
  *   tags       out: eleven numbers of each tag, 0 past the last: version, 1 to 64; agreement, the fraction of positions
- *              that agree, 0 to 1; mirrored, 1 where the ring runs anticlockwise in the picture, else 0; x and y of the four
+ *              that agree, 0 to 1; mirrored, 1 where the ring runs backwards round its quad, which is anticlockwise in the
+ *              picture where the quad is clockwise (see lcr_quad), else 0; x and y of the four
  *              corners of the ring's outer square, in pixels of the picture, lens and all, in the ring's own order: the corner
  *              of position 0 first, then along rising positions. They may lie outside the picture
  *
- * Two tags are of regions that have no pixel in common. They can be the same tag only where its ink has fallen into two
- * kept regions each of which reads as the whole ring: version and corners then agree, and a caller can tell by these.
+ * Two tags are of kept regions that have no pixel in common. They can be the same tag: where its ink has fallen into two
+ * regions, or other ink lies round or in it, and the outlines of both read as the ring. Nothing rules that out; version and
+ * corners, which then nearly agree, tell it.
  *
  * Refusals in order: LCR_SIDE, LCR_BYTES, LCR_LENT, LCR_VERSION. */
 uint32_t lcr_tags(const uint8_t *gray, size_t gray_len, size_t width, size_t height, uint32_t most,

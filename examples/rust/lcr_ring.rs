@@ -78,7 +78,7 @@ pub struct Found {
     pub trace: Trace,
 }
 
-/// A tag: its version, the fraction of positions that agree, whether the ring runs anticlockwise in the picture, and the
+/// A tag: its version, the fraction of positions that agree, whether the ring runs backwards, as in a mirror, and the
 /// corners of its outer square in pixels, in the ring's own order: that of position 0 first.
 #[derive(Debug, Clone, Copy, PartialEq)]
 pub struct Tag {

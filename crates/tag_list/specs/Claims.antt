@@ -13,8 +13,8 @@ use Rattle.tag_list.specs.Tags.{tagsOf}
 unfoldable pub AtMostFour : Type 0
 AtMostFour = (gray : List ℕ) (w h most : ℕ) → length (tagsOf gray w h most) ≤ 4
 
--- Two tags of kept regions are of ink that has no pixel in common: a pixel that is a member of both is of one region. They can be the same
--- tag only where its ink has fallen into two regions each of which reads as the ring.
+-- Two tags of kept regions are of ink that has no pixel in common: a pixel that is a member of both is of one region. That they are not
+-- the same tag does not follow: two regions' outlines may read as one ring.
 unfoldable pub NoInkShared : Type 0
 NoInkShared =
     (p : Plane) (w h i j x y : ℕ) → i < keptCount p w h → j < keptCount p w h → isMember p w h (keptLabel p w h i) x y ≡ true

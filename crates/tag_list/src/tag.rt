@@ -16,7 +16,7 @@ pub struct Tag {
     pub version: u8,
     // fraction of the ring's positions that agree, 0 to 1
     pub agreement: f32,
-    // whether the ring runs anticlockwise in the picture
+    // whether the ring runs backwards round its quad, as in a mirror
     pub mirrored: bool,
     // the corners of the ring's outer square, in pixels of the picture, in the ring's own order:
     // that of position 0 first, then along rising positions
