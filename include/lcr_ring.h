@@ -31,7 +31,7 @@
  * STATE. Nothing is allocated and nothing is kept between calls, so that calls on different memory may run at the
  * same time in any threads. Floats are IEEE 754 in round to nearest, which the calling thread must have set, with
  * subnormals on. A NaN has no fixed bits. Working memory that is not lent is on the stack: random calls use up to
- * 33 KB of it (oracle/outside/guards measures), and a median of 4,096 values may go as many levels of 48 bytes deep.
+ * 46 KB of it (oracle/outside/guards measures), and a median of 4,096 values may go as many levels of 48 bytes deep.
  * A thread that calls should have 256 KB free.
  */
 #ifndef LCR_RING_H
@@ -60,7 +60,7 @@ enum {
     LCR_VALUE = 10,      /* a NaN, an infinity or -0 among the values */
     LCR_MARKS = 11,      /* marks or lumas not as many as the version has positions */
     LCR_CELL = 12,       /* a cell coordinate outside -32,768 .. 32,767 */
-    LCR_RECORD = 13,     /* a record that is short or wrong; in the tray list also a PGM file with a side over 160 */
+    LCR_RECORD = 13,     /* a record that is short or wrong; in a program also a PGM file with a side over what it takes */
     LCR_HEADER = 14,     /* a PGM header that does not follow the form, or does not end within the first 4,096 bytes */
     LCR_MAXIMUM = 15,    /* a PGM file's maximum value other than 255 */
     LCR_NONE = 255       /* accepted, and there is nothing to answer */
@@ -69,7 +69,8 @@ enum {
 enum {
     LCR_VERSIONS = 64,     /* the greatest version */
     LCR_REGIONS = 26,      /* numbers that lcr_picture answers */
-    LCR_SCORES = 256,      /* numbers of scores that lcr_attempt answers */
+    LCR_SCORES = 256,      /* numbers of scores that lcr_attempt and lcr_find answer */
+    LCR_TAGS = 44,         /* numbers of tags that lcr_tags answers, eleven each */
     LCR_TEXT = 512         /* bytes of the text that lcr_listing answers */
 };
 
@@ -168,6 +169,55 @@ uint32_t lcr_attempt(const uint8_t *gray, size_t gray_len, size_t width, size_t 
                      float *straight, size_t straight_len, float *cand, size_t cand_len, float *buf, size_t buf_len,
                      size_t *hull, bool *found, float quad[8], size_t *tried, float scores[LCR_SCORES],
                      double fix[15], double fallback[15]);
+
+/* ---- The finder and the tag list ------------------------------------------------------------------------ */
+
+/* How many numbers points, straight, cand and buf must have below: what the outline of a whole picture can need. */
+#define LCR_NUMBERS(width, height) (4 * ((size_t)(width) + (size_t)(height)))
+
+/* The finder: from a picture to its ring in one call. Each kept region is tried by itself, largest first, then all ink
+ * together where there is more than one region, kept or not: a ring at a large pitch falls into several regions, and only all
+ * of them have its outline. A try is lcr_outline, then lcr_attempt on its points. The first try with a fix is answered; without
+ * one the first with the greatest score, and its fallback becomes the fix.
+ *
+ *   gray, width, height     as lcr_picture has them
+ *   most       the greatest version to try, 1 to 64
+ *   levels, labels, stack   as lcr_picture has them; levels and labels hold afterwards what lcr_picture leaves
+ *   points, straight, cand, buf     working lists, each at least LCR_NUMBERS numbers
+ *   regions    out: how many regions the picture has, kept or not
+ *   hull, found, quad, tried, scores, fix     out, as lcr_attempt has them, of the try that is answered. Where no
+ *              outline is tried, hull is 0 and there is no quad
+ *   fallback   out, as lcr_attempt has it; all 0 where it became the fix
+ *
+ * Refusals in order: LCR_SIDE, LCR_BYTES, LCR_LENT, LCR_VERSION. */
+uint32_t lcr_find(const uint8_t *gray, size_t gray_len, size_t width, size_t height, uint32_t most,
+                  uint8_t *levels, size_t levels_len, uint32_t *labels, size_t labels_len,
+                  uint32_t *stack, size_t stack_len, float *points, size_t points_len,
+                  float *straight, size_t straight_len, float *cand, size_t cand_len, float *buf, size_t buf_len,
+                  size_t *regions, size_t *hull, bool *found, float quad[8], size_t *tried, float scores[LCR_SCORES],
+                  double fix[15], double fallback[15]);
+
+/* The tags of a picture, which may carry several: every kept region's own fix, in the regions' order; where no region has
+ * one, the fix of lcr_find, if there is one.
+ *
+ *   gray to buf     as lcr_find has them
+ *   many       out: how many tags, 0 to 4
+ *   tags       out: eleven numbers of each tag, 0 past the last: version, 1 to 64; agreement, the fraction of positions
+ *              that agree, 0 to 1; mirrored, 1 where the ring runs backwards round its quad, which is anticlockwise in the
+ *              picture where the quad is clockwise (see lcr_quad), else 0; x and y of the four
+ *              corners of the ring's outer square, in pixels of the picture, lens and all, in the ring's own order: the corner
+ *              of position 0 first, then along rising positions. They may lie outside the picture
+ *
+ * Two tags are of kept regions that have no pixel in common. They can be the same tag: where its ink has fallen into two
+ * regions, or other ink lies round or in it, and the outlines of both read as the ring. Nothing rules that out; version and
+ * corners, which then nearly agree, tell it.
+ *
+ * Refusals in order: LCR_SIDE, LCR_BYTES, LCR_LENT, LCR_VERSION. */
+uint32_t lcr_tags(const uint8_t *gray, size_t gray_len, size_t width, size_t height, uint32_t most,
+                  uint8_t *levels, size_t levels_len, uint32_t *labels, size_t labels_len,
+                  uint32_t *stack, size_t stack_len, float *points, size_t points_len,
+                  float *straight, size_t straight_len, float *cand, size_t cand_len, float *buf, size_t buf_len,
+                  size_t *many, float tags[LCR_TAGS]);
 
 /* ---- Versions, border cells and marks ------------------------------------------------------------------- */
 

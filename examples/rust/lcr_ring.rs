@@ -1,4 +1,5 @@
-//! A safe wrapper of the ring finder's doors: `regions`, `outline` and `attempt`; and of PGM files: `pgm_read`, `pgm_write`.
+//! A safe wrapper of the ring finder: `find` and `tags` from a picture to its rings; the doors `map`, `outline` and `attempt`
+//! step by step; and PGM files, `pgm_read` and `pgm_write`.
 //!
 //! Link with libexports.a (`rt staticlib exports`). include/lcr_ring.h says what each function takes and gives.
 //! The lists that the doors want are made here, as long as they must be, so that no caller meets a refusal for one.
@@ -70,6 +71,23 @@ pub struct Trace {
     pub fallback: Option<Ring>,
 }
 
+/// What the finder answers: how many regions the picture has, kept or not, and the trace of the try that stands.
+#[derive(Debug, Clone, PartialEq)]
+pub struct Found {
+    pub regions: usize,
+    pub trace: Trace,
+}
+
+/// A tag: its version, the fraction of positions that agree, whether the ring runs backwards, as in a mirror, and the
+/// corners of its outer square in pixels, in the ring's own order: that of position 0 first.
+#[derive(Debug, Clone, Copy, PartialEq)]
+pub struct Tag {
+    pub version: u8,
+    pub agreement: f32,
+    pub mirrored: bool,
+    pub corners: [(f32, f32); 4],
+}
+
 #[rustfmt::skip]
 unsafe extern "C" {
     fn lcr_picture(gray: *const u8, n: usize, width: usize, height: usize, levels: *mut u8, l: usize, labels: *mut u32, m: usize,
@@ -79,6 +97,13 @@ unsafe extern "C" {
     fn lcr_attempt(gray: *const u8, n: usize, width: usize, height: usize, points: *const f32, m: usize, most: u32,
         straight: *mut f32, a: usize, cand: *mut f32, b: usize, buf: *mut f32, c: usize, hull: *mut usize, found: *mut bool,
         quad: *mut f32, tried: *mut usize, scores: *mut f32, fix: *mut f64, fallback: *mut f64) -> u32;
+    fn lcr_find(gray: *const u8, n: usize, width: usize, height: usize, most: u32, levels: *mut u8, l: usize, labels: *mut u32,
+        m: usize, stack: *mut u32, k: usize, points: *mut f32, p: usize, straight: *mut f32, a: usize, cand: *mut f32, b: usize,
+        buf: *mut f32, c: usize, regions: *mut usize, hull: *mut usize, found: *mut bool, quad: *mut f32, tried: *mut usize,
+        scores: *mut f32, fix: *mut f64, fallback: *mut f64) -> u32;
+    fn lcr_tags(gray: *const u8, n: usize, width: usize, height: usize, most: u32, levels: *mut u8, l: usize, labels: *mut u32,
+        m: usize, stack: *mut u32, k: usize, points: *mut f32, p: usize, straight: *mut f32, a: usize, cand: *mut f32, b: usize,
+        buf: *mut f32, c: usize, many: *mut usize, tags: *mut f32) -> u32;
     fn lcr_pgm_read(file: *const u8, n: usize, width: *mut usize, height: *mut usize, at: *mut usize) -> u32;
     fn lcr_pgm_write(gray: *const u8, n: usize, width: usize, height: usize, out: *mut u8, m: usize, len: *mut usize) -> u32;
 }
@@ -87,11 +112,32 @@ fn told(no: u32) -> Result<(), Refusal> {
     if no == 0 { Ok(()) } else { Err(Refusal(no)) }
 }
 
+/// How many cells of n by n pixels a picture has; none where the doors refuse a side.
+fn cells(width: usize, height: usize, n: usize) -> usize {
+    if width <= 4096 && height <= 4096 { width.div_ceil(n) * height.div_ceil(n) } else { 0 }
+}
+
+/// The lists that the finder is lent.
+struct Lent {
+    levels: Vec<u8>,
+    labels: Vec<u32>,
+    stack: Vec<u32>,
+    numbers: [Vec<f32>; 4],
+}
+
+impl Lent {
+    fn of(width: usize, height: usize) -> Lent {
+        let n = if width <= 4096 && height <= 4096 { 4 * (width + height) } else { 0 };
+        let grid = cells(width, height, 8);
+        let levels = vec![0; cells(width, height, 16)];
+        Lent { levels, labels: vec![0; grid], stack: vec![0; grid], numbers: std::array::from_fn(|_| vec![0.0; n]) }
+    }
+}
+
 /// The picture door: a picture of one byte a pixel, row by row.
 pub fn map(gray: &[u8], width: usize, height: usize) -> Result<Map, Refusal> {
-    // a side that the door refuses gets lists of no places
-    let cells = |n: usize| if width <= 4096 && height <= 4096 { width.div_ceil(n) * height.div_ceil(n) } else { 0 };
-    let (mut levels, mut labels, mut stack, mut r) = (vec![0; cells(16)], vec![0; cells(8)], vec![0; cells(8)], [0u32; 26]);
+    let Lent { mut levels, mut labels, mut stack, .. } = Lent::of(width, height);
+    let mut r = [0u32; 26];
     // SAFETY: each pointer is that of a list of the length beside it, and no two overlap.
     told(unsafe {
         lcr_picture(
@@ -143,14 +189,52 @@ pub fn attempt(gray: &[u8], width: usize, height: usize, points: &[(f32, f32)], 
             &mut hull, &mut found, quad.as_mut_ptr(), &mut tried, scores.as_mut_ptr(), fix.as_mut_ptr(), fallback.as_mut_ptr(),
         )
     })?;
-    let corner = |i: usize| (quad[2 * i], quad[2 * i + 1]);
-    Ok(Trace {
-        hull,
-        quad: if found { Some([corner(0), corner(1), corner(2), corner(3)]) } else { None },
-        scores: scores.chunks_exact(4).take(tried).map(|s| (s[0] as u8, s[1], s[2] as u8, s[3] != 0.0)).collect(),
-        fix: ring(&fix),
-        fallback: ring(&fallback),
-    })
+    Ok(Trace { hull, quad: found.then(|| corners(&quad)), scores: rows(&scores, tried), fix: ring(&fix), fallback: ring(&fallback) })
+}
+
+/// Four corners, x and y by turns.
+fn corners(q: &[f32]) -> [(f32, f32); 4] {
+    std::array::from_fn(|i| (q[2 * i], q[2 * i + 1]))
+}
+
+/// The scores of a trace.
+fn rows(scores: &[f32], tried: usize) -> Vec<(u8, f32, u8, bool)> {
+    scores.chunks_exact(4).take(tried).map(|s| (s[0] as u8, s[1], s[2] as u8, s[3] != 0.0)).collect()
+}
+
+/// The finder: from a picture to its ring, up to version `most`. `detect_ring` is `trace.fix` of its answer.
+pub fn find(gray: &[u8], width: usize, height: usize, most: u32) -> Result<Found, Refusal> {
+    let Lent { mut levels, mut labels, mut stack, numbers: [mut p, mut a, mut b, mut c] } = Lent::of(width, height);
+    let (mut regions, mut hull, mut tried, mut found) = (0, 0, 0, false);
+    let (mut quad, mut scores, mut fix, mut fallback) = ([0f32; 8], [0f32; 256], [0f64; 15], [0f64; 15]);
+    // SAFETY: as above; the fixed arrays have the lengths of the header.
+    told(unsafe {
+        lcr_find(
+            gray.as_ptr(), gray.len(), width, height, most, levels.as_mut_ptr(), levels.len(), labels.as_mut_ptr(), labels.len(),
+            stack.as_mut_ptr(), stack.len(), p.as_mut_ptr(), p.len(), a.as_mut_ptr(), a.len(), b.as_mut_ptr(), b.len(),
+            c.as_mut_ptr(), c.len(), &mut regions, &mut hull, &mut found, quad.as_mut_ptr(), &mut tried, scores.as_mut_ptr(),
+            fix.as_mut_ptr(), fallback.as_mut_ptr(),
+        )
+    })?;
+    let quad = found.then(|| corners(&quad));
+    let trace = Trace { hull, quad, scores: rows(&scores, tried), fix: ring(&fix), fallback: ring(&fallback) };
+    Ok(Found { regions, trace })
+}
+
+/// The tags of a picture, up to four, versions up to `most`.
+pub fn tags(gray: &[u8], width: usize, height: usize, most: u32) -> Result<Vec<Tag>, Refusal> {
+    let Lent { mut levels, mut labels, mut stack, numbers: [mut p, mut a, mut b, mut c] } = Lent::of(width, height);
+    let (mut many, mut tags) = (0, [0f32; 44]);
+    // SAFETY: as above.
+    told(unsafe {
+        lcr_tags(
+            gray.as_ptr(), gray.len(), width, height, most, levels.as_mut_ptr(), levels.len(), labels.as_mut_ptr(), labels.len(),
+            stack.as_mut_ptr(), stack.len(), p.as_mut_ptr(), p.len(), a.as_mut_ptr(), a.len(), b.as_mut_ptr(), b.len(),
+            c.as_mut_ptr(), c.len(), &mut many, tags.as_mut_ptr(),
+        )
+    })?;
+    let tag = |t: &[f32]| Tag { version: t[0] as u8, agreement: t[1], mirrored: t[2] != 0.0, corners: corners(&t[3..]) };
+    Ok(tags.chunks_exact(11).take(many).map(tag).collect())
 }
 
 /// Width, height and pixels of a PGM file (P5, maximum value 255). Bytes after the pixels are not read.

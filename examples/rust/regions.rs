@@ -1,4 +1,4 @@
-//! regions FILE [MOST]: the regions of a grey picture (PGM, P5, maximum value 255), by the safe wrapper `lcr_ring`.
+//! regions FILE [MOST]: the regions and the tags of a grey picture (PGM, P5, maximum value 255), by the safe wrapper `lcr_ring`.
 //!
 //! Prints what examples/c/regions.c prints; with MOST, a greatest version, also of each kept region how many boundary
 //! points and vertices of the searched hull it has, and the ring that an attempt locates there: version, agreement (the f32's bits in
@@ -22,6 +22,15 @@ fn run(file: &str, most: Option<u32>) -> Result<(), String> {
             }
         }
     }
+    let tags = lcr_ring::tags(gray, width, height, 64).map_err(|r| r.to_string())?;
+    if tags.is_empty() {
+        println!("none");
+    }
+    for t in &tags {
+        print!("version {} agreement {:.3} mirrored {} corners", t.version, t.agreement, if t.mirrored { "yes" } else { "no" });
+        t.corners.iter().for_each(|c| print!(" {:.1} {:.1}", c.0, c.1));
+        println!();
+    }
     Ok(())
 }
 
@@ -36,6 +45,19 @@ fn main() {
         eprintln!("regions: {}: {what}", words[0]);
         std::process::exit(1);
     }
+}
+
+/// The finder and the tag list agree on the sample: its fix is the one tag.
+#[test]
+fn sample_found() {
+    let (width, height, gray) = lcr_ring::pgm_read(include_bytes!("../../samples/ring.pgm")).unwrap();
+    let (found, tags) = (lcr_ring::find(gray, width, height, 64).unwrap(), lcr_ring::tags(gray, width, height, 64).unwrap());
+    let fix = found.trace.fix.unwrap();
+    assert_eq!((tags.len(), tags[0].version, tags[0].agreement, tags[0].mirrored), (1, fix.version, fix.agreement, fix.mirrored));
+    assert_eq!(found.regions, lcr_ring::map(gray, width, height).unwrap().all as usize);
+    assert_eq!(lcr_ring::find(gray, width, height, 65), Err(lcr_ring::Refusal(8)));
+    assert_eq!(lcr_ring::tags(gray, width, height, 0), Err(lcr_ring::Refusal(8)));
+    assert_eq!(lcr_ring::tags(gray, 4097, height, 1), Err(lcr_ring::Refusal(1)));
 }
 
 /// The samples are files as `pgm_write` writes them.

@@ -115,7 +115,7 @@ fn hex(key: &str, words: &[u32]) -> String {
 }
 
 /// Makes the call smaller, writes it to a file and says how to replay it.
-fn keep(area: &Area, seed: u64, call: &Call, place: &str) {
+pub fn keep(area: &Area, seed: u64, call: &Call, place: &str) {
     println!("{} differs: {place}, entry {} ({}), {} words; making it smaller", area.name, call.kind, name(call.kind), call.args.len());
     let (args, tries) = reduced(area, call);
     let (want, got) = ((area.answer)(call.kind, &args).unwrap_or_default(), ours(call.kind, &args));
@@ -176,7 +176,7 @@ pub fn selftest() {
         c.output().unwrap().status.code()
     };
     let mut bad = 0;
-    for (area, fault) in [("math", "302"), ("outline", "602"), ("outline", "600"), ("picture", "500"), ("attempt", "910"), ("listing", "604"), ("functions", "10500")] {
+    for (area, fault) in [("math", "302"), ("outline", "602"), ("outline", "600"), ("picture", "500"), ("attempt", "910"), ("listing", "604"), ("functions", "10500"), ("functions", "10920")] {
         let file = folder.join(format!("{area}-7.txt"));
         let path = file.to_str().unwrap();
         let _ = std::fs::remove_file(&file);

@@ -4,7 +4,7 @@ use crate::attempts;
 use crate::calls::{Area, Call, w32};
 use crate::cases::{case, outline as points_of};
 use crate::finder::{self, Grids, Ring};
-use crate::{border, finder_leaves, listing, marks, math, pgm, transform};
+use crate::{border, find, finder_find, finder_leaves, listing, marks, math, pgm, transform};
 use crate::outline::{self, Outline};
 use crate::pic::{KINDS, Pic, Rng, draw_ring, generate};
 use crate::picture;
@@ -30,6 +30,7 @@ fn home(kind: u32) -> &'static Area {
         10604 => &listing::AREA,
         10605 | 10606 => &pgm::AREA,
         10700..10800 => &marks::AREA,
+        10920 | 10921 => &find::AREA,
         _ => &outline::AREA,
     }
 }
@@ -58,6 +59,7 @@ pub fn direct(kind: u32, args: &[u32]) -> Vec<u32> {
             finder::quad(&p).map_or(vec![0, 0], |q| [0, 1].into_iter().chain(q.map(w32)).collect())
         }
         10910 => ring_words(args),
+        10920 | 10921 => finder_find::direct(kind, args),
         _ => finder_leaves::direct(kind, args),
     }
 }
@@ -189,7 +191,7 @@ fn random(r: &mut Rng) -> Call {
     if r.chance(0.8) {
         return leaf(r);
     }
-    match r.below(9) {
+    match r.below(11) {
         0..=2 => {
             let mut args = picture::fits(&wide(r), r.below(5) as usize);
             if r.chance(0.05) {
@@ -208,6 +210,10 @@ fn random(r: &mut Rng) -> Call {
         6 => AREA.call(10603, long_list(r).into_iter().take(2000).map(w32).collect()),
         7 if r.chance(0.5) => AREA.call(10605, pgm::to_read(&pgm::file(&wide(r), 0, r))),
         7 => AREA.call(10606, pgm::to_write(&wide(r), r.range(-1, 9))),
+        8 | 9 => {
+            let (kind, args) = find::some(r);
+            AREA.call(kind + 10000, args)
+        }
         _ => {
             let (_, c, rooms) = attempts::of(r);
             AREA.call(10910, attempts::args(&c, rooms))

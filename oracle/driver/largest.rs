@@ -1,5 +1,7 @@
 //! `largest`: the largest legal inputs through the C functions: equal answers, times of both sides, stack use of ours.
+use crate::find::{Asked, Seen, needs, tags_words, trace_words};
 use crate::finder::{self, Grids, Ring};
+use crate::finder_find::{Find, Tags, find_times, tags_times};
 use crate::pic::Pic;
 use crate::timed::*;
 use lcr_core::version::Version;
@@ -79,6 +81,20 @@ fn doors(kind: &str, p: &Pic) {
     line(&format!("outline door, {kind}, {n} points"), outline_door(p, &ink, 0, whole), bytes);
 }
 
+/// The finder's entries on a picture of 4,096 by 4,096.
+fn entries(kind: &str, p: &Pic) {
+    let (w, h) = (p.w as usize, p.h as usize);
+    let seen = Seen::of(&Asked { g: p.g.clone(), w, h, most: 64, rooms: needs(w, h) });
+    let mut lent = Find::of(needs(w, h));
+    let bytes = stack(|| assert_eq!(lent.call(&p.g, w, h, 64), 0));
+    same(lent.words() == trace_words(&seen.trace), kind);
+    line(&format!("find, {kind}, {}", if seen.trace.fix.is_some() { "a fix" } else { "no fix" }), find_times(p), bytes);
+    let (mut lent, tags) = (Tags::of(needs(w, h)), seen.tags());
+    let bytes = stack(|| assert_eq!(lent.call(&p.g, w, h, 64), 0));
+    same(lent.words() == tags_words(&tags), kind);
+    line(&format!("tags, {kind}, {} tags", tags.len()), tags_times(p), bytes);
+}
+
 /// 16,384 points on a circle through hull, quad and the ring door.
 fn circle(kind: &str, p: &Pic) {
     let (c, s) = (p.w as f64 / 2.0, p.w as f64 * 0.49);
@@ -112,7 +128,9 @@ pub fn run(seed: u64) {
     println!("Equal answers on both sides; milliseconds of the processor, medians by turns; stack in bytes, by a painted stack.\n");
     println!("| what, 4,096 by 4,096 | Rust | ours | ratio | stack of ours |\n|---|---|---|---|---|");
     for kind in KINDS.into_iter().chain(["spiral"]) {
-        doors(kind, &picture(kind, 4096, seed));
+        let p = picture(kind, 4096, seed);
+        doors(kind, &p);
+        entries(kind, &p);
     }
     for kind in ["noise", "ring"] {
         circle(kind, &picture(kind, 4096, seed));

@@ -6,6 +6,7 @@ mod border;
 mod calc;
 mod calls;
 mod cases;
+mod find;
 mod fit;
 mod fuzz;
 mod ieee;
@@ -22,7 +23,9 @@ mod picture;
 mod ring;
 mod rings;
 mod smaller;
+mod tagged;
 mod transform;
+mod trays;
 mod ways;
 #[cfg(ours)]
 mod bench;
@@ -33,18 +36,24 @@ mod compare;
 #[cfg(ours)]
 mod finder;
 #[cfg(ours)]
+mod finder_find;
+#[cfg(ours)]
 mod finder_leaves;
+#[cfg(ours)]
+mod found;
 #[cfg(ours)]
 mod functions;
 #[cfg(ours)]
 mod largest;
+#[cfg(ours)]
+mod tallies;
 #[cfg(ours)]
 mod timed;
 use std::io::{Read, Write};
 
 const USAGE: &str = "usage: oracle WORD ..: without the finder traylist, sample, dump, attempt, attempt-verbose, attempt-case SEED I, ways SEED N, \
 picks, calc, fuzz SEED N, vectors AREA, program PATH SEED N; with it compare AREA|all SEED SECONDS [MOST], compare-selftest, replay FILE, poses, \
-bench [SEED], bench-leaves, largest";
+found PICTURES SEED [FIRST], bench [SEED], bench-leaves, largest";
 
 const AREAS: &[&calls::Area] = &[
     &border::AREA, &ieee::AREA, &math::AREA, &transform::AREA, &marks::AREA, &fit::AREA, &ring::AREA, &attempts::AREA, &picture::AREA,
@@ -82,6 +91,7 @@ fn with_finder(a: &Said) -> bool {
         "compare-selftest" => compare::selftest(),
         "replay" => compare::replay(a.word(2)),
         "poses" => functions::poses(),
+        "found" => found::run(a.num(2, 20000), a.num(3, 1), a.num(4, 0)),
         "bench" => bench::run(a.num(2, 1)),
         "bench-leaves" => bench_leaves::run(),
         "largest" => largest::run(a.num(2, 1)),
@@ -92,7 +102,7 @@ fn with_finder(a: &Said) -> bool {
 
 #[cfg(not(ours))]
 fn with_finder(a: &Said) -> bool {
-    let known = ["compare", "compare-selftest", "replay", "poses", "bench", "bench-leaves", "largest"].contains(&a.word(1));
+    let known = ["compare", "compare-selftest", "replay", "poses", "found", "bench", "bench-leaves", "largest"].contains(&a.word(1));
     if known {
         eprintln!("this build has no finder linked: oracle/run without LCR_ALONE builds one that has");
         std::process::exit(2);

@@ -30,7 +30,7 @@
 #include "lcr_ring.h"
 #include "random.h"
 
-enum { AREA = 1 << 20, LISTS = 12, ANY = 1000 };
+enum { AREA = 1 << 20, LISTS = 16, ANY = 1000 };
 
 static size_t below(size_t n) { return (size_t)(next() % (n ? n : 1)); }
 static int odds(int in) { return below((size_t)in) == 0; }
@@ -154,16 +154,13 @@ static void paint(uint8_t *p, size_t n, size_t w) {
         for (size_t i = 0; i < n; i++)
             if (odds(9)) p[i] = (uint8_t)next();
 }
-/* The ring of a version in a picture of its own: list 0, and its sides. */
-static void ring(size_t *w, size_t *h) {
+/* A ring of a version into a picture w pixels wide. */
+static void draw_ring(uint8_t *p, size_t w, uint32_t v, size_t pitch) {
     uint16_t side;
     size_t n;
-    uint32_t v = (uint32_t)(1 + below(3));
     int turn = (int)below(4), mirrored = odds(2);
     lcr_version(v, &side, &n);
-    size_t s = (size_t)side + 6, pitch = 3 + below(3), wide = (s + 4) * pitch;
-    uint8_t *p = add(wide * wide, 1, 0, 0);
-    memset(p, 255, wide * wide);
+    size_t s = (size_t)side + 6;
     for (size_t i = 0; i < n; i++) {
         bool light;
         int32_t x, y;
@@ -176,9 +173,17 @@ static void ring(size_t *w, size_t *h) {
             int32_t o = x;
             x = (int32_t)s - 1 - y, y = o;
         }
-        for (size_t a = 0; a < pitch; a++) memset(p + (((size_t)y + 2) * pitch + a) * wide + ((size_t)x + 2) * pitch, (int)below(40), pitch);
+        for (size_t a = 0; a < pitch; a++) memset(p + (((size_t)y + 2) * pitch + a) * w + ((size_t)x + 2) * pitch, (int)below(40), pitch);
     }
-    *w = *h = wide;
+}
+/* Some rings of a version side by side in a picture of their own: list 0, and its sides. */
+static void rings(size_t many, size_t *w, size_t *h) {
+    uint32_t v = (uint32_t)(1 + below(3));
+    size_t pitch = 3 + below(3), wide = (17 + 4 * v + 10) * pitch, gap = 24;
+    *w = many * wide + (many - 1) * gap, *h = wide;
+    uint8_t *p = add(*w * *h, 1, 0, 0);
+    memset(p, 255, *w * *h);
+    for (size_t k = 0; k < many; k++) draw_ring(p + k * (wide + gap), *w, v, pitch);
 }
 static uint32_t picture_check(size_t bytes, size_t w, size_t h) {
     if (w < 1 || w > 4096 || h < 1 || h > 4096) return LCR_SIDE;
@@ -275,7 +280,7 @@ static uint32_t make_attempt(void) {
     static float found[16384];
     size_t n = 0;
     if (odds(4)) {
-        ring(&w, &h);
+        rings(1, &w, &h);
         n = outlined(found, 16384);
     } else {
         gray(100, &w, &h);
@@ -305,6 +310,54 @@ static uint32_t call_attempt(void) {
     uint32_t r = lcr_attempt(at(0), len(0), w, h, at(1), len(1), ver, at(2), len(2), at(3), len(3), at(4), len(4), at(5), is,
                              at(7), at(8), at(9), fix, fallback);
     if (r == LCR_OK) fixes += fix[0] != 0, fallbacks += fallback[0] != 0, nones += !*is;
+    return r;
+}
+
+/* The picture and the seven lists that both entries of the finder are lent; now and then one of these is too short. */
+static uint32_t make_entry(void) {
+    if (odds(3))
+        rings(odds(2) ? 1 : 1 + below(5), &w, &h);
+    else
+        gray(120, &w, &h);
+    size_t l = LCR_LEVEL_CELLS(w % 5000, h % 5000), c = LCR_REGION_CELLS(w % 5000, h % 5000), n = 4 * (w + h), few = below(40);
+    if (c > 100000) l = c = 100;
+    size_t need[] = {0, l, c, c, n, n, n, n};
+    for (size_t i = 1; i < 8; i++) {
+        size_t room = i == few && need[i] ? need[i] - (odds(2) ? 1 : 1 + below(need[i])) : need[i] + (odds(2) ? 0 : below(20));
+        add(room, i == 1 ? 1 : 4, 1, i < 4 ? 0 : 4);
+        list[i].need = need[i];
+    }
+    ver = odds(3) ? 64 : version();
+    uint32_t no = picture_check(len(0), w, h);
+    if (no) return no;
+    for (int i = 1; i < 8; i++)
+        if (len(i) < need[i]) return LCR_LENT;
+    return is_version(ver) ? LCR_OK : LCR_VERSION;
+}
+static uint32_t make_find(void) {
+    uint32_t no = make_entry();
+    add(1, sizeof(size_t), 1, 0), add(1, sizeof(size_t), 1, 0), add(1, 1, 1, 0), add(8, 4, 1, 4), add(1, sizeof(size_t), 1, 0);
+    add(LCR_SCORES, 4, 1, 4), add(15, 8, 1, 8), add(15, 8, 1, 8);
+    return no;
+}
+static size_t finds, tags, calls_with_tags;
+static uint32_t call_find(void) {
+    double *fix = at(14);
+    uint32_t r = lcr_find(at(0), len(0), w, h, ver, at(1), len(1), at(2), len(2), at(3), len(3), at(4), len(4), at(5), len(5),
+                          at(6), len(6), at(7), len(7), at(8), at(9), at(10), at(11), at(12), at(13), fix, at(15));
+    if (r == LCR_OK) finds += fix[0] != 0;
+    return r;
+}
+static uint32_t make_tags(void) {
+    uint32_t no = make_entry();
+    add(1, sizeof(size_t), 1, 0), add(LCR_TAGS, 4, 1, 4);
+    return no;
+}
+static uint32_t call_tags(void) {
+    size_t *many = at(8);
+    uint32_t r = lcr_tags(at(0), len(0), w, h, ver, at(1), len(1), at(2), len(2), at(3), len(3), at(4), len(4), at(5), len(5),
+                          at(6), len(6), at(7), len(7), many, at(9));
+    if (r == LCR_OK) tags += *many, calls_with_tags += *many > 0;
     return r;
 }
 
@@ -532,7 +585,8 @@ static const struct {
     {"lcr_solve", make_solve, call_solve}, {"lcr_least_squares", make_fit, call_fit},
     {"lcr_median", make_median, call_median}, {"lcr_mad_sigma", make_values, call_sigma},
     {"lcr_pgm_read", make_read, call_read}, {"lcr_pgm_write", make_write, call_write},
-    {"lcr_listing", make_listing, call_listing},
+    {"lcr_listing", make_listing, call_listing}, {"lcr_find", make_find, call_find},
+    {"lcr_tags", make_tags, call_tags},
 };
 
 /* ---- one call, at both places */
@@ -587,10 +641,12 @@ static void refuse_versions(void) {
     static bool marks[MOST];
     uint8_t g[4] = {0};
     uint16_t side, eight[8];
-    size_t a, b;
+    size_t a, b, c;
     int32_t x, y;
     bool is;
-    float s, lent[3], quad[8], scores[LCR_SCORES];
+    float s, lent[3], quad[8], scores[LCR_SCORES], four[4][16], all[LCR_TAGS];
+    uint8_t level;
+    uint32_t label, one;
     double fix[15], fallback[15];
     for (int i = 0; i < NO_VERSIONS; i++) {
         uint32_t v = no_version[i];
@@ -600,6 +656,9 @@ static void refuse_versions(void) {
             lcr_outer_cell(v, 0, &x, &y), lcr_inner_cell(v, 0, &x, &y), lcr_sequence_light(v, 0, &is),
             lcr_classify(v, lumas, n, marks, n), lcr_correlate(v, marks, n, &s, &a, &is, eight),
             lcr_attempt(g, 4, 2, 2, lumas, 0, v, lent, 1, lent + 1, 1, lent + 2, 1, &a, &is, quad, &b, scores, fix, fallback),
+            lcr_find(g, 4, 2, 2, v, &level, 1, &label, 1, &one, 1, four[0], 16, four[1], 16, four[2], 16, four[3], 16, &a, &c, &is, quad,
+                     &b, scores, fix, fallback),
+            lcr_tags(g, 4, 2, 2, v, &level, 1, &label, 1, &one, 1, four[0], 16, four[1], 16, four[2], 16, four[3], 16, &a, all),
         };
         for (size_t k = 0; k < sizeof answers / sizeof *answers; k++)
             if (answers[k] != LCR_VERSION) {
@@ -667,6 +726,7 @@ int main(int argc, char **argv) {
         all += calls;
     }
     printf("attempts: %zu without a quad, %zu with a fix, %zu with a fallback\n", nones / 2, fixes / 2, fallbacks / 2);
+    printf("finder: find has a fix in %zu, tags %zu in %zu\n", finds / 2, tags / 2, calls_with_tags / 2);
     printf("seed %llu: %llu calls, 0 different\n", (unsigned long long)seed, (unsigned long long)all);
     return all ? 0 : 2;
 }

@@ -9,6 +9,7 @@
 pub mod cells;
 pub mod equations;
 pub mod files;
+pub mod finds;
 pub mod listings;
 pub mod maps;
 pub mod outlines;

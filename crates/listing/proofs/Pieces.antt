@@ -53,10 +53,10 @@ pub region-short : (w h : ℕ) (r : Region) → TrayRegion w h r → w ≤ 160 �
     → Short (r .label ∷ r .cells ∷ r .x0 ∷ r .y0 ∷ r .x1 ∷ r .y1 ∷ [])
 region-short w h r t a b zero l = t .label
 region-short w h r t a b (suc zero) l = t .cells
-region-short w h r t a b (suc (suc zero)) l = omega (arith, t .across, t .right)
-region-short w h r t a b (suc (suc (suc zero))) l = omega (arith, t .down, t .bottom)
-region-short w h r t a b (suc (suc (suc (suc zero)))) l = omega (arith, t .right)
-region-short w h r t a b (suc (suc (suc (suc (suc zero))))) l = omega (arith, t .bottom)
+region-short w h r t a b (suc (suc zero)) l = omega (arith, t .boxed .across, t .boxed .right)
+region-short w h r t a b (suc (suc (suc zero))) l = omega (arith, t .boxed .down, t .boxed .bottom)
+region-short w h r t a b (suc (suc (suc (suc zero)))) l = omega (arith, t .boxed .right)
+region-short w h r t a b (suc (suc (suc (suc (suc zero))))) l = omega (arith, t .boxed .bottom)
 region-short w h r t a b (suc (suc (suc (suc (suc (suc i)))))) l = absurd (omega arith)
 
 -- ---- the line of a quad

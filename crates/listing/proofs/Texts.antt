@@ -29,7 +29,8 @@ use Rattle.laws.proofs.Stores.{stored-none, stored-append, stored-ext, stored-l
 use Rattle.listing.proofs.Numbers.{line-short}
 use Rattle.listing.proofs.Pieces.{one-short, two-short}
 use Rattle.regions.proofs.Inside.{groups-le}
-use Rattle.listing.proofs.Pictures.{cells-few, picture-passes, kept-four, listed, tray-region, region-lines-short}
+use Rattle.listing.proofs.Pictures.{cells-few, picture-passes, tray-region, region-lines-short}
+use Rattle.region_outline.proofs.Points.{count-four, listed}
 
 -- ---- the first kept regions
 module _ (p : Plane) (w h : ℕ) where
@@ -63,7 +64,7 @@ module _ (s : List ℕ) (w h : ℕ) (t : TrayPicture s w h) where
   first-short zero l = unfold firstLines joined in omega arith
   first-short (suc i) l =
       let g = tray-region s w h t i l in
-      let e : regionLines p w h (nth p w h i) ≡ regionLines p w h (region p w h i) = ap (regionLines p w h) (listed s w h t i l) in
+      let e : regionLines p w h (nth p w h i) ≡ regionLines p w h (region p w h i) = ap (regionLines p w h) (listed p w h i l) in
       let f : firstLines p w h (suc i) ≡ firstLines p w h i ++ regionLines p w h (nth p w h i) = rw (← add-one i) (first-next p w h i) in
       omega (
         arith,
@@ -79,7 +80,7 @@ module _ (s : List ℕ) (w h : ℕ) (t : TrayPicture s w h) where
       i) l l′ r
       → r + 84 ≤ length l′
   first-room i n e b fit v =
-      omega (arith, b, e, fit, v .next, stored-length v, first-short i (omega arith), kept-four s w h t)
+      omega (arith, b, e, fit, v .next, stored-length v, first-short i (omega arith), count-four p w h)
 
   -- ---- the picture
   pub kept-count : (k : Kept) → k ≡ keptRegions p w h → k .kept ≡ keptCount p w h
@@ -89,13 +90,13 @@ module _ (s : List ℕ) (w h : ℕ) (t : TrayPicture s w h) where
       → TrayRegion w h (getD (k .list) i (record { label = 0; cells = 0; x0 = 0; y0 = 0; x1 = 0; y1 = 0 }))
   tray-nth k e i l =
       let b : i < keptCount p w h = subst (λ (n : ℕ). i < n) (kept-count k e) l in
-      subst (λ (z : Region). TrayRegion w h z) (sym (region-nth p w h k e i ∙ listed s w h t i b)) (tray-region s w h t i b)
+      subst (λ (z : Region). TrayRegion w h z) (sym (region-nth p w h k e i ∙ listed p w h i b)) (tray-region s w h t i b)
 
   pub kept-few : (k : Kept) → k ≡ keptRegions p w h → (k .all < 1000) × (k .kept < 1000)
   kept-few k e =
       let a : k .all ≡ groupsOf p w h = ap (λ (z : Kept). z .all) e ∙ unfold keptRegions in refl in
       let b : k .kept ≡ keptCount p w h = ap (λ (z : Kept). z .kept) e ∙ unfold keptRegions in refl in
-      (omega (arith, a, groups-le p w h, cells-few w h (t .wide) (t .high) .1), omega (arith, b, kept-four s w h t))
+      (omega (arith, a, groups-le p w h, cells-few w h (t .wide) (t .high) .1), omega (arith, b, count-four p w h))
 
   pub text-stored : {n e : ℕ} {l l′ l″ : List ℕ} (k : Kept) → k ≡ keptRegions p w h
       → Stored 0 (lineOf regionsWord (k .all ∷ k .kept ∷ [])) l l′ n → Stored n (firstLines p w h (k .kept)) l′ l″ e → Stored 0
@@ -121,7 +122,7 @@ module _ (s : List ℕ) (w h : ℕ) (t : TrayPicture s w h) where
         line-short regionsWord (k .all ∷ k .kept ∷ []) (two-short (k .all) (k .kept) (f .0) (f .1)),
         first-short (k .kept) (omega (arith, b)),
         b,
-        kept-four s w h t,
+        count-four p w h,
       )
 
 taken : (a : PictureAnswer) (n : ℕ) (k : Kept) → a ≡ answerBy n k → n ≡ 0 → (a .refused ≡ 0) × (a .regions ≡ k)

@@ -9,9 +9,8 @@ use Rattle.regions.specs.declared.answer.Region.{Region}
 use Rattle.hull.specs.Points.{numbersOf}
 use Rattle.hull.specs.Hull.{hullPoints}
 use Rattle.hull.specs.Quad.{quadPoints}
-use Rattle.boundary.specs.Boundary.{isMember, boundary}
 use Rattle.laws.specs.Fold.{joined}
-use Rattle.outline.specs.Door.{boxAt}
+use Rattle.region_outline.specs.Region.{regionPoints}
 use Rattle.text.specs.Text.{lineOf, refusedWord, quadWord, noneWord}
 use Rattle.tray.specs.Input.{checkInput, inputWidth, inputHeight, inputPixels}
 
@@ -38,11 +37,7 @@ quadLine (q ∷ l) = lineOf quadWord (numbersOf (q ∷ l))
 unfoldable pub outlineLines : List (ℕ × ℕ) → List ℕ
 outlineLines L = lineOf outlineWord (length L ∷ length (hullPoints L) ∷ []) ++ quadLine (quadPoints (hullPoints L))
 
--- The boundary points of a region r of the picture p of w by h.
-abbrev pub regionPoints : Plane → ℕ → ℕ → Region → List (ℕ × ℕ)
-regionPoints p w h r = boundary 4 (isMember p w h (r .label)) (boxAt (r .x0) (r .y0) (r .x1) (r .y1))
-
--- The lines of such a region: label, cells, box, then its outline.
+-- The lines of a region: label, cells, box, then its outline.
 unfoldable pub regionLines : Plane → ℕ → ℕ → Region → List ℕ
 regionLines p w h r =
     lineOf regionWord (r .label ∷ r .cells ∷ r .x0 ∷ r .y0 ∷ r .x1 ∷ r .y1 ∷ [])

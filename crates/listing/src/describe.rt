@@ -2,19 +2,18 @@
 // region cells for sides up to 160, and at most 640 points.
 use crate::lines::line;
 use crate::lines::quad_line;
-use outline::Answer;
 use regions::answer::Kept;
 use regions::answer::Region;
 ghost use mathlib.Core.Path.{_≡_};
-ghost use Prim.Native.Nat.{_+_, _*_, _≤_};
-ghost use lib.ListN.{length, take};
+ghost use Prim.Native.Nat.{_+_, _≤_};
+ghost use lib.ListN.{length};
 ghost use Rattle.laws.specs.Plane.{plane};
 ghost use Rattle.regions.specs.Door.{keptRegions};
-ghost use Rattle.hull.specs.Points.{floatsOf};
-ghost use Rattle.listing.specs.Listing.{regionPoints, regionLines, firstLines, pictureText};
+ghost use Rattle.region_outline.specs.Region.{Gridded};
+ghost use Rattle.listing.specs.Listing.{regionLines, firstLines, pictureText};
 ghost use Rattle.laws.specs.Lent.{Stored};
 ghost use Rattle.listing.specs.Put.{Outlined, linesBy};
-ghost use Rattle.listing.specs.Inner.{TrayPicture, Mapped, TrayRegion};
+ghost use Rattle.listing.specs.Inner.{TrayPicture, TrayRegion};
 
 // The lines of an outline whose points are p: how many points and vertices, and the quad.
 fn outline_lines(p: &[f32], out: &mut [u8], at: usize) -> usize
@@ -29,36 +28,6 @@ fn outline_lines(p: &[f32], out: &mut [u8], at: usize) -> usize
     quad_line(&vertices[..2 * m], out, next)
 }
 
-// The points of one region, as the first numbers of the list; how many there are.
-fn region_points(
-    s: &[u8],
-    w: usize,
-    h: usize,
-    levels: &[u8],
-    labels: &[u32],
-    r: Region,
-    list: &mut [f32],
-) -> usize
-    requires { ⌜ TrayPicture (now s) w h ⌝ }
-    requires { ⌜ Mapped (now s) w h (now levels) (now labels) ⌝ }
-    requires { ⌜ TrayRegion w h r ⌝ }
-    requires { ⌜ 1280 ≤ length (now list) ⌝ }
-    ensures { λ n. ⌜ 2 * n ≤ 1280 ⌝ }
-    ensures { λ n. ⌜
-        take (2 * n) (now (list .exit))
-        ≡ floatsOf (regionPoints (plane w (now (s .entry))) w h r) ⌝ }
-{
-    let x0 = r.x0 as usize;
-    let y0 = r.y0 as usize;
-    let x1 = r.x1 as usize;
-    let y1 = r.y1 as usize;
-    let a = outline::outline(s, levels, labels, r.label, w, h, x0, y0, x1, y1, list);
-    let Answer::Points(n) = a else {
-        return 0;
-    };
-    n
-}
-
 // The lines of one region.
 fn region_lines(
     s: &[u8],
@@ -71,7 +40,7 @@ fn region_lines(
     at: usize,
 ) -> usize
     requires { ⌜ TrayPicture (now s) w h ⌝ }
-    requires { ⌜ Mapped (now s) w h (now levels) (now labels) ⌝ }
+    requires { ⌜ Gridded (now s) w h (now levels) (now labels) ⌝ }
     requires { ⌜ TrayRegion w h r ⌝ }
     requires { ⌜ at + 84 ≤ length (now out) ⌝ }
     ensures { λ e. ⌜
@@ -85,7 +54,7 @@ fn region_lines(
         b"region",
         &[r.label, r.cells, r.x0, r.y0, r.x1, r.y1],
     );
-    let n = region_points(s, w, h, levels, labels, r, &mut list);
+    let n = region_outline::region_points(s, w, h, levels, labels, r, &mut list);
     outline_lines(&list[..2 * n], out, next)
 }
 
@@ -101,7 +70,7 @@ fn all_regions(
     at: usize,
 ) -> usize
     requires { ⌜ TrayPicture (now s) w h ⌝ }
-    requires { ⌜ Mapped (now s) w h (now levels) (now labels) ⌝ }
+    requires { ⌜ Gridded (now s) w h (now levels) (now labels) ⌝ }
     requires { ⌜ k ≡ keptRegions (plane w (now s)) w h ⌝ }
     requires { ⌜ at + 336 ≤ length (now out) ⌝ }
     ensures { λ e. ⌜

@@ -3,22 +3,22 @@
 --     total-first, total-turn, total-done    the sum, one number further
 --     between-low, between-high, between-both  the threshold between two sides, in the three cases of the code
 --     round-is, split-is                     a round, and four from the mean
---     no-nan, one-pattern, stays             equal numbers are no NaN; of one pattern they are one; a round that changes nothing
+--     same-none, same-turn                   numbers on one side of two thresholds, one number further
+--     stays                                  a round after which no number changes sides is the last that moves the threshold
 -- Assumes nothing.
-use mathlib.Core.Path.{_≡_, refl, sym, ap, _∙_}
-use mathlib.Core.Bool.{true, false, not}
+use mathlib.Core.Path.{_≡_, refl, sym, ap, _∙_, subst}
+use mathlib.Core.Bool.{Bool, true, false, cond, _||_}
 use mathlib.Core.List.{List}
-use Prim.Native.Nat.{ℕ, suc, _+_, _-_, _≤_}
+use Prim.Native.Nat.{ℕ, zero, suc, _+_, _-_, _≤_, _<_}
 use native.Mathlib.Omega.{arith}
+use native.Mathlib.Decide.{ℕ-discrete}
 use native.Mathlib.Numerals.{add-one}
 use lib.IntN.{pos}
-use lib.Dec.{T}
-use lib.Ieee.{Float, nan, inf, fin, binary32, add, div, eq, ofInt, ofBits, toBits, fits, isNan}
-use lib.Ieee.Bits.{ofBits-toBits}
+use lib.Ieee.{Float, nan, binary32, add, div, lt, eq, ofInt}
 use lib.ListN.{length, getD}
-use Rattle.laws.proofs.Bools.{clash}
 use Rattle.marks.specs.declared.split.Sides.{Sides}
 use Rattle.marks.specs.Split.{0·0, 2·0, totalTo, mean, putSide, noSides, sidesTo, between, splitRound, rounds, split}
+use Rattle.marks.specs.Split.{SameSides}
 
 pub sides-none : (t : Float) (w : List Float) → noSides ≡ sidesTo t w 0
 unfolding sidesTo
@@ -75,19 +75,42 @@ split-is w total m a b c d n en et em ea eb ec ed =
     ∙ ap (λ (k : ℕ). div binary32 (totalTo w (length w - 1)) (ofInt binary32 (pos k))) en in
     ed ∙ ap (splitRound w) (ec ∙ ap (splitRound w) (eb ∙ ap (splitRound w) (ea ∙ ap (splitRound w) e)))
 
--- ---- a round that changes nothing
-pub no-nan : (a b : Float) → eq a b ≡ true → T (not (isNan a)) × T (not (isNan b))
-unfolding eq isNan
-no-nan nan b e = absurd (clash e refl)
-no-nan (inf s) nan e = absurd (clash e refl)
-no-nan (inf s) (inf t) e = (tt, tt)
-no-nan (inf s) (fin t n d) e = (tt, tt)
-no-nan (fin s m d) nan e = absurd (clash e refl)
-no-nan (fin s m d) (inf t) e = (tt, tt)
-no-nan (fin s m d) (fin t n g) e = (tt, tt)
+-- ---- a round after which no number changes sides
+pub same-none : (w : List Float) (a b : Float) → SameSides w a b 0
+unfolding SameSides
+same-none w a b i l = absurd (omega arith)
 
-pub one-pattern : (a b : Float) → T (fits binary32 a) → T (fits binary32 b) → toBits binary32 a ≡ toBits binary32 b → a ≡ b
-one-pattern a b f g e = sym (ofBits-toBits binary32 a f) ∙ ap (ofBits binary32) e ∙ ofBits-toBits binary32 b g
+pub same-turn : (w : List Float) (a b : Float) (n : ℕ) → SameSides w a b n → lt a (getD w n nan) ≡ lt b (getD w n nan)
+    → SameSides w a b (n + 1)
+unfolding SameSides
+same-turn w a b n q e i l = go (ℕ-discrete i n)
+  where
+    go : Dec (i ≡ n) → lt a (getD w i nan) ≡ lt b (getD w i nan)
+    go (yes z) = subst (λ (k : ℕ). lt a (getD w k nan) ≡ lt b (getD w k nan)) (sym z) e
+    go (no z) = q i (omega arith)
 
-pub stays : (w : List Float) (t a : Float) → a ≡ splitRound w t → a ≡ t → a ≡ splitRound w a
-stays w t a e same = e ∙ ap (splitRound w) (sym same)
+same-put : (a b x : Float) (s : Sides) → lt a x ≡ lt b x → putSide a x s ≡ putSide b x s
+unfolding putSide
+same-put a b x s e = rw e
+
+same-sides : (w : List Float) (a b : Float) (n : ℕ) → SameSides w a b n → sidesTo a w n ≡ sidesTo b w n
+unfolding sidesTo SameSides
+same-sides w a b zero q = refl
+same-sides w a b (suc n) q =
+    same-put a b (getD w n nan) (sidesTo a w n) (q n (omega arith))
+    ∙ ap (putSide b (getD w n nan)) (same-sides w a b n (λ i l. q i (omega arith)))
+
+between-stays : (t a : Float) (s : Sides) → a ≡ between t s → a ≡ between a s
+unfolding between
+between-stays t a s e = go (eq (s .ln) 0·0 || eq (s .hn) 0·0) e
+  where
+    go : (c : Bool)
+        → a ≡ cond c t (div binary32 (add binary32 (div binary32 (s .lo) (s .ln)) (div binary32 (s .hi) (s .hn))) 2·0)
+        → a ≡ cond c a (div binary32 (add binary32 (div binary32 (s .lo) (s .ln)) (div binary32 (s .hi) (s .hn))) 2·0)
+    go true e = refl
+    go false e = e
+
+pub stays : (w : List Float) (t a : Float) → a ≡ splitRound w t → SameSides w t a (length w) → a ≡ splitRound w a
+unfolding splitRound
+stays w t a e q =
+    between-stays t a (sidesTo t w (length w)) e ∙ ap (between a) (same-sides w t a (length w) q)

@@ -2,7 +2,8 @@
 -- between the means of the numbers not above it and of those above it. Sums start from the first term. Definitions only. Assumes nothing.
 use mathlib.Core.Bool.{Bool, _||_, cond}
 use mathlib.Core.List.{List}
-use Prim.Native.Nat.{ℕ, zero, suc, _-_}
+use mathlib.Core.Path.{_≡_}
+use Prim.Native.Nat.{ℕ, zero, suc, _-_, _<_}
 use lib.IntN.{pos}
 use lib.Ieee.{Float, nan, binary32, add, div, lt, eq, ofInt, ofBits}
 use lib.ListN.{length, getD}
@@ -59,6 +60,10 @@ splitRound w t = between t (sidesTo t w (length w))
 unfoldable pub rounds : List Float → ℕ → Float → Float
 rounds w zero t = t
 rounds w (suc k) t = splitRound w (rounds w k t)
+
+-- Each of the first n numbers of a window is on the same side of a as of b.
+unfoldable pub SameSides : List Float → Float → Float → ℕ → Type 0
+SameSides w a b n = (i : ℕ) → i < n → lt a (getD w i nan) ≡ lt b (getD w i nan)
 
 -- The split of a window: four rounds from its mean.
 unfoldable pub split : List Float → Float

@@ -1,9 +1,10 @@
 // The split of one window of lumas into dark and light: two means, four rounds.
 ghost use mathlib.Core.Path.{_≡_};
-ghost use mathlib.Core.Bool.{true};
 ghost use Prim.Native.Nat.{_<_, _≤_, _-_};
+ghost use lib.Ieee.{lt};
 ghost use lib.ListN.{length};
 ghost use Rattle.marks.specs.Split.{totalTo, putSide, sidesTo, between, splitRound, split};
+ghost use Rattle.marks.specs.Split.{SameSides};
 
 // Sums and counts of a window's numbers on the two sides of a threshold.
 pub struct Sides {
@@ -89,21 +90,39 @@ fn total(w: &[f32]) -> f32
     sum
 }
 
-// Whether two numbers are one and the same; not of a NaN, and not of the two zeros.
-fn same(a: f32, b: f32) -> bool
-    ensures { λ r. ⌜ (r ≡ true → a ≡ b) ⌝ }
+// 1 where a number is on another side of b than of a, else 0.
+fn differs(x: f32, a: f32, b: f32) -> u32
+    ensures { λ r. ⌜ r ≤ 1 ⌝ }
+    ensures { λ r. ⌜ (r ≡ 0 → lt a x ≡ lt b x) ⌝ }
 {
-    if a == b {
-        if f32::to_bits(a) == f32::to_bits(b) {
-            return true;
+    if x > a {
+        if x > b {
+            return 0;
         }
-        return false;
+        return 1;
     }
-    false
+    if x > b {
+        return 1;
+    }
+    0
 }
 
-// The split of a window: four rounds from its mean. A round that leaves the threshold as it is ends
-// them, since those after it would too.
+// How many numbers of a window are on another side of b than of a.
+fn moved(w: &[f32], a: f32, b: f32) -> u32
+    requires { ⌜ length (now w) ≤ 33 ⌝ }
+    ensures { λ r. ⌜ (r ≡ 0 → SameSides (now (w .entry)) a b (length (now (w .entry)))) ⌝ }
+{
+    let mut n: u32 = 0;
+    let mut i = 0;
+    while i < w.len() {
+        n += differs(w[i], a, b);
+        i += 1;
+    }
+    n
+}
+
+// The split of a window: four rounds from its mean. A round after which no number changes sides
+// ends them, since those after it would leave the threshold as it is.
 pub(crate) fn split_of(w: &[f32]) -> f32
     requires { ⌜ 0 < length (now w) ⌝ }
     requires { ⌜ length (now w) ≤ 33 ⌝ }
@@ -111,15 +130,15 @@ pub(crate) fn split_of(w: &[f32]) -> f32
 {
     let m = total(w) / (w.len() as u16 as f32);
     let a = split_round(w, m);
-    if same(a, m) {
+    if moved(w, m, a) == 0 {
         return a;
     }
     let b = split_round(w, a);
-    if same(b, a) {
+    if moved(w, a, b) == 0 {
         return b;
     }
     let c = split_round(w, b);
-    if same(c, b) {
+    if moved(w, b, c) == 0 {
         return c;
     }
     split_round(w, c)

@@ -50,7 +50,7 @@ fn check_lists(w: usize, h: usize, bytes: usize, grid: usize, labels: usize, sta
 }
 
 // All checks in order.
-fn check(w: usize, h: usize, bytes: usize, grid: usize, labels: usize, stack: usize) -> u32
+pub fn check(w: usize, h: usize, bytes: usize, grid: usize, labels: usize, stack: usize) -> u32
     ensures { λ r. ⌜ r ≡ checkGrids w h bytes grid labels stack ⌝ }
     ensures { λ r. ⌜ (r ≡ 0 → Sides w h bytes × Places w h grid labels stack) ⌝ }
 {
@@ -102,7 +102,7 @@ fn count_regions(s: &[u8], w: usize, h: usize, labels: &[u32], stack: &mut [u32]
 }
 
 // The answer of a refusal: its number, and no regions.
-fn refusal(n: u32) -> PictureAnswer
+pub fn refusal(n: u32) -> PictureAnswer
     ensures { λ r. ⌜ r ≡ refusedBy n ⌝ }
 {
     let none = Region {

@@ -20,10 +20,10 @@ answerBy (suc n) gray w h s most = record { outcome = Refused (suc n); trace = s
 unfoldable pub answerOf : List ℕ → ℕ → ℕ → List Float → ℕ → ℕ → ℕ → ℕ → Answer
 answerOf gray w h s most a b c = answerBy (checkRing w h (length gray) s a b c most) gray w h s most
 
--- What an answer says: the trace.
-abbrev pub outcomeSaid : Outcome → Trace → Said Trace
-outcomeSaid Given t = give t
-outcomeSaid (Refused n) t = refuse n
+-- What an answer says: the value beside its outcome, here the trace.
+abbrev pub outcomeSaid : {A : Type 0} → Outcome → A → Said A
+outcomeSaid Given a = give a
+outcomeSaid (Refused n) a = refuse n
 
 abbrev pub attemptSaid : Answer → Said Trace
 attemptSaid a = outcomeSaid (a .outcome) (a .trace)

@@ -18,7 +18,7 @@ ghost use Rattle.ring.specs.Trace.{shortTrace, foundOf, underLens, middl
 ghost use Rattle.ring.specs.Trace.{attemptOf};
 
 // The trace without a quad.
-pub(crate) fn short_trace(hull: usize) -> Trace
+pub fn short_trace(hull: usize) -> Trace
     ensures { λ r. ⌜ r ≡ shortTrace hull ⌝ }
 {
     let s = search::versions::start();
@@ -140,7 +140,7 @@ fn by_lens(
 }
 
 // The trace of a list of points.
-pub(crate) fn attempt(
+pub fn attempt(
     gray: &[u8],
     w: usize,
     h: usize,

@@ -36,7 +36,7 @@ fn span_of(q: Quad) -> f32
 }
 
 // Whether there is a fix.
-fn is_fixed(f: Fixed) -> bool
+pub fn is_fixed(f: Fixed) -> bool
     ensures { λ r. ⌜ r ≡ isFixed f ⌝ }
 {
     let Fixed::At(_) = f else {
@@ -100,7 +100,7 @@ fn top_of(t: Trace) -> f32
 }
 
 // Of two traces the first with a fix; without one the second where its greatest score is greater.
-fn better(t: Trace, u: Trace) -> Trace
+pub fn better(t: Trace, u: Trace) -> Trace
     requires { ⌜ t .scores .many ≤ 64 ⌝ }
     requires { ⌜ u .scores .many ≤ 64 ⌝ }
     ensures { λ r. ⌜ r ≡ betterOf t u ⌝ }

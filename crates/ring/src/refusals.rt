@@ -57,7 +57,7 @@ fn coordinates(s: &[f32]) -> bool
 }
 
 // Whether a number is one of a version.
-fn is_version(v: u32) -> bool
+pub fn is_version(v: u32) -> bool
     ensures { λ r. ⌜ r ≡ isVersion v ⌝ }
 {
     let VersionAnswer::Known(_) = Version::new(v) else {

@@ -1,2 +1,3 @@
--- What the C function of the ring door leaves in its out-parameters, by an attempt's trace.
+-- What the C functions of the ring door, the finder and the tag list leave in their out-parameters, by a trace and by tags.
 pub mod Rings
+pub mod Tags

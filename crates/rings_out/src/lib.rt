@@ -1,4 +1,4 @@
-// An attempt's trace put into the out-parameters of the C function of the ring door. A ring is
+// A trace put into the out-parameters of the C functions of the ring door and the finder. A ring is
 // fifteen numbers: version, agreement, corner, mirrored, then the transform's eleven; all 0 where
 // there is none. A score is four: version, agreement, corner, mirrored.
 ghost use mathlib.Core.Path.{_≡_};
@@ -14,8 +14,10 @@ use hull::points::Corners;
 use ring::quads::Trace;
 use search::versions::Score;
 
+pub mod tags;
+
 // 1 or 0.
-fn flag(b: bool) -> u8
+pub(crate) fn flag(b: bool) -> u8
     ensures { λ r. ⌜ r ≡ bit b ⌝ }
 {
     if b {

@@ -1,5 +1,5 @@
--- Numbers in decimal and in hex. Digits: decimal-one, decimal-more; length-one, length-more; decimal-tens, how many digits there are. Hex:
--- hexDigit-low, hexDigit-high, hex-none, hex-more, hex-length. Assumes nothing.
+-- Numbers in decimal and in hex. Digits: decimal-one, decimal-more; length-one, length-more; decimal-tens, how many digits there are. The
+-- last digits: last-none, last-more, last-length. Hex: hexDigit-low, hexDigit-high, hex-none, hex-more, hex-length. Assumes nothing.
 use mathlib.Core.Path.{_≡_, refl, sym, ap, _∙_}
 use mathlib.Core.Logic.{_⊎_, inl, inr}
 use mathlib.Core.List.{List, [], _∷_, _++_}
@@ -9,7 +9,7 @@ use native.Mathlib.Omega.{arith}
 use lib.ListN.{length, length-append}
 use borrow.Author.Tests.{lt-ltb, le-ltb}
 use Rattle.laws.proofs.Bools.{le-or-lt}
-use Rattle.text.specs.Text.{spelt, decimal, hexDigit, hex}
+use Rattle.text.specs.Text.{spelt, decimal, lastDigits, hexDigit, hex}
 
 -- ---- digits
 spelt-one : (m n : ℕ) → n < 10 → spelt (suc m) n ≡ (48 + n) ∷ []
@@ -58,6 +58,23 @@ decimal-tens (suc k) n l = go (decimal-tens k (n / 10) (omega arith)) (le-or-lt 
     go : length (decimal (n / 10)) ≤ suc k → (10 ≤ n) ⊎ (n < 10) → length (decimal n) ≤ suc (suc k)
     go few (inr a) = omega (arith, length-one n a)
     go few (inl a) = omega (arith, length-more n a, few)
+
+-- ---- the last digits
+pub last-none : (n : ℕ) → [] ≡ lastDigits 0 n
+unfolding lastDigits
+last-none n = refl
+
+pub last-more : (k n : ℕ) → lastDigits k (n / 10) ++ ((48 + n % 10) ∷ []) ≡ lastDigits (suc k) n
+unfolding lastDigits
+last-more k n = refl
+
+pub last-length : (k n : ℕ) → length (lastDigits k n) ≡ k
+last-length zero n = unfold lastDigits in refl
+last-length (suc k) n =
+    sym (ap length (last-more k n))
+    ∙ length-append (lastDigits k (n / 10)) ((48 + n % 10) ∷ [])
+    ∙ ap (λ (j : ℕ). j + 1) (last-length k (n / 10))
+    ∙ add-one k
 
 -- ---- hex
 pub hexDigit-low : (d : ℕ) → d < 10 → 48 + d ≡ hexDigit d

@@ -1,5 +1,5 @@
--- A word stored byte by byte: word-none, word-more. A number stored digit by digit: one-stored, more-stored, hex-end, hex-stored. Assumes
--- nothing.
+-- A word stored byte by byte: word-none, word-more. A number stored digit by digit: one-stored, more-stored, last-end, last-stored, hex-end,
+-- hex-stored. Assumes nothing.
 use mathlib.Core.Path.{_≡_, sym, ap, _∙_}
 use mathlib.Core.List.{List, [], _∷_, _++_}
 use Prim.Native.Nat.{ℕ, suc, _+_, _-_, _/_, _%_, _≤_, _<_}
@@ -9,8 +9,8 @@ use lib.ListN.{length, getD, take}
 use lib.Seq.{take-suc}
 use Rattle.laws.specs.Lent.{Stored}
 use Rattle.laws.proofs.Stores.{stored-none, stored-append, stored-ext}
-use Rattle.text.specs.Text.{decimal, hexDigit, hex}
-use Rattle.text.proofs.Decimals.{decimal-one, decimal-more, hex-none, hex-more}
+use Rattle.text.specs.Text.{decimal, lastDigits, hexDigit, hex}
+use Rattle.text.proofs.Decimals.{decimal-one, decimal-more, last-none, last-more, hex-none, hex-more}
 
 pub word-none : (at : ℕ) (w l : List ℕ) → Stored at (take 0 w) l l at
 word-none at w l = stored-none at l
@@ -29,6 +29,20 @@ pub more-stored : {at r r′ : ℕ} {l l′ l″ : List ℕ} (n d : ℕ) → 10 
 more-stored n d above e v u =
     stored-ext (decimal (n / 10) ++ (d ∷ [])) (decimal n)
     (ap (λ (b : ℕ). decimal (n / 10) ++ (b ∷ [])) e ∙ sym (decimal-more n above)) (stored-append v u)
+
+pub last-end : (at k n : ℕ) (l : List ℕ) → k ≡ 0 → Stored at (lastDigits k n) l l at
+last-end at k n l e = stored-ext [] (lastDigits k n) (last-none n ∙ ap (λ (j : ℕ). lastDigits j n) (sym e)) (stored-none at l)
+
+pub last-stored : {at r r′ : ℕ} {l l′ l″ : List ℕ} (k n d : ℕ) → (k ≡ 0 → ⊥) → d ≡ 48 + n % 10
+    → Stored at (lastDigits (k - 1) (n / 10)) l l′ r → Stored r (d ∷ []) l′ l″ r′ → Stored at (lastDigits k n) l l″ r′
+last-stored k n d some e v u =
+    let z : suc (k - 1) ≡ k = omega (arith, some-more) in
+    stored-ext (lastDigits (k - 1) (n / 10) ++ (d ∷ [])) (lastDigits k n)
+    (ap (λ (b : ℕ). lastDigits (k - 1) (n / 10) ++ (b ∷ [])) e ∙ last-more (k - 1) n ∙ ap (λ (j : ℕ). lastDigits j n) z)
+    (stored-append v u)
+  where
+    some-more : 1 ≤ k
+    some-more = omega (arith, some)
 
 pub hex-end : (at k n : ℕ) (l : List ℕ) → k ≡ 0 → Stored at (hex k n) l l at
 hex-end at k n l e = stored-ext [] (hex k n) (hex-none n ∙ ap (λ (j : ℕ). hex j n) (sym e)) (stored-none at l)

@@ -14,6 +14,11 @@ spelt (suc most) n = cond (ltb n 10) ((48 + n) ∷ []) (spelt most (n / 10) ++ (
 unfoldable pub decimal : ℕ → List ℕ
 decimal n = spelt (suc n) n
 
+-- The last so many decimal digits of n, the most significant first.
+unfoldable pub lastDigits : ℕ → ℕ → List ℕ
+lastDigits zero n = []
+lastDigits (suc digits) n = lastDigits digits (n / 10) ++ ((48 + n % 10) ∷ [])
+
 -- The hex digit of a number below 16: 0 to 9, then a to f.
 unfoldable pub hexDigit : ℕ → ℕ
 hexDigit d = cond (ltb d 10) (48 + d) (87 + d)

@@ -5,7 +5,7 @@ ghost use mathlib.Core.List.{[], _∷_};
 ghost use Prim.Native.Nat.{_+_, _<_, _≤_};
 ghost use lib.ListN.{length};
 ghost use Rattle.laws.specs.Lent.{Stored};
-ghost use Rattle.text.specs.Text.{decimal, hexDigit, hex};
+ghost use Rattle.text.specs.Text.{decimal, lastDigits, hexDigit, hex};
 
 // One byte.
 pub fn put_byte(out: &mut [u8], at: usize, b: u8) -> usize
@@ -57,6 +57,18 @@ pub fn put_spaced(out: &mut [u8], at: usize, n: usize) -> usize
 {
     let a = put_byte(out, at, b' ');
     put_number(out, a, n)
+}
+
+// So many decimal digits of a number, its last ones.
+pub fn put_digits(out: &mut [u8], at: usize, digits: usize, n: usize) -> usize
+    requires { ⌜ at + digits ≤ length (now out) ⌝ }
+    ensures { λ r. ⌜ Stored at (lastDigits digits n) (now (out .entry)) (now (out .exit)) r ⌝ }
+{
+    if digits == 0 {
+        return at;
+    }
+    let next = put_digits(out, at, digits - 1, n / 10);
+    put_byte(out, next, digit(n % 10))
 }
 
 // The hex digit of a number below 16.

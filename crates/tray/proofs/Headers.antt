@@ -18,7 +18,7 @@ use Rattle.pgm.specs.Head.{checkHead}
 use Rattle.pgm.specs.declared.steps.Reading.{Reading}
 use Rattle.pgm.proofs.Beside.{steps-stay}
 use Rattle.pgm.proofs.Counted.{steps-append, at-grows, whole-ended}
-use Rattle.tray.specs.Input.{headRead, askedBy}
+use Rattle.tray.specs.Input.{headRead, askedTo}
 
 -- ---- the steps over a list
 -- the list of the bytes after the letters
@@ -64,16 +64,17 @@ pub not-whole : (h : Reading) → isEnded (h .stage) ≡ false → isWhole (h .s
 not-whole h e = falsely (isWhole (h .stage)) (λ w. clash (whole-ended (h .stage) w) e)
 
 -- a header that is not whole
-refused-asks : (h : Reading) → isWhole (h .stage) ≡ false → askedBy h ≡ 0
-unfolding askedBy checkHead
-refused-asks h e = rw e
+refused-asks : (most : ℕ) (h : Reading) → isWhole (h .stage) ≡ false → askedTo most h ≡ 0
+unfolding askedTo checkHead
+refused-asks most h e = rw e
 
-pub asked-grows : (h : Reading) (t : List ℕ) → h .at + askedBy h ≤ stepsOver h t .at + askedBy (stepsOver h t)
-asked-grows h t = go (which (isEnded (h .stage)))
+pub asked-grows : (most : ℕ) (h : Reading) (t : List ℕ)
+    → h .at + askedTo most h ≤ stepsOver h t .at + askedTo most (stepsOver h t)
+asked-grows most h t = go (which (isEnded (h .stage)))
   where
-    same : (r : Reading) → r ≡ h → h .at + askedBy h ≤ r .at + askedBy r
-    same r e = subst (λ (q : Reading). h .at + askedBy h ≤ q .at + askedBy q) (sym e) (omega arith)
+    same : (r : Reading) → r ≡ h → h .at + askedTo most h ≤ r .at + askedTo most r
+    same r e = subst (λ (q : Reading). h .at + askedTo most h ≤ q .at + askedTo most q) (sym e) (omega arith)
 
-    go : (isEnded (h .stage) ≡ true) ⊎ (isEnded (h .stage) ≡ false) → h .at + askedBy h ≤ stepsOver h t .at + askedBy (stepsOver h t)
+    go : (isEnded (h .stage) ≡ true) ⊎ (isEnded (h .stage) ≡ false) → h .at + askedTo most h ≤ stepsOver h t .at + askedTo most (stepsOver h t)
     go (inl e) = same (stepsOver h t) (steps-stay h t e)
-    go (inr e) = omega (arith, refused-asks h (not-whole h e), at-grows h t)
+    go (inr e) = omega (arith, refused-asks most h (not-whole h e), at-grows h t)

@@ -1,6 +1,7 @@
 -- An input of either kind.
 --   file-answer, record-answer     which reading it takes
---   InputAt, input-picture         what the answer of a picture tells
+--   file-picture                   what the answer of a file's picture tells
+--   InputAt, input-picture         the same of an input
 --   input-number                   the number of a refusal: at most 15
 --   check-refused, check-found     the number by the answer
 -- Assumes nothing.
@@ -21,13 +22,13 @@ use Rattle.pgm.specs.Doors.{checkHeader, checkPixels, found}
 use Rattle.pgm.specs.declared.File.the-variants.{Picture, Refused}
 use Rattle.pgm.proofs.Heads.{header-step}
 use Rattle.tray.specs.Record.{pairAt, fourAt, widthOf, heightOf, isTraySide, checkRecord}
-use Rattle.tray.specs.Input.{checkSides, checkTrayFile, checkInput, inputWidth, inputHeight, inputStart, inputAnswer}
+use Rattle.tray.specs.Input.{FileAt, checkFileTo, fileTo, checkTrayFile, checkInput, inputWidth, inputHeight, inputStart, inputAnswer}
 use Rattle.tray.proofs.Records as records
 
 -- ---- which reading
 module _ (s : List ℕ) where
-  pub file-answer : hasLetters s ≡ true → found (checkTrayFile s) (fileWidth s) (fileHeight s) (fileStart s) ≡ inputAnswer s
-  unfolding inputAnswer checkInput inputWidth inputHeight inputStart
+  pub file-answer : hasLetters s ≡ true → fileTo 160 s ≡ inputAnswer s
+  unfolding fileTo inputAnswer checkInput inputWidth inputHeight inputStart
   file-answer e = rw e
 
   pub record-answer : hasLetters s ≡ false → found (checkRecord s) (widthOf s) (heightOf s) 10 ≡ inputAnswer s
@@ -35,21 +36,15 @@ module _ (s : List ℕ) where
   record-answer e = rw e
 
 -- ---- what the answer of a picture tells
--- A picture of w by h whose pixels stand at a place of an input.
-pub record InputAt (s : List ℕ) (w h at : ℕ) : Type 0 where
-  pub someWide : 1 ≤ w
-  pub wide : w ≤ 160
-  pub someHigh : 1 ≤ h
-  pub high : h ≤ 160
-  pub near : at ≤ 4096
-  pub within : at + w * h ≤ length s
+abbrev pub InputAt : List ℕ → ℕ → ℕ → ℕ → Type 0
+InputAt = FileAt 160
 
-file-at : (s : List ℕ) → checkTrayFile s ≡ 0 → InputAt s (fileWidth s) (fileHeight s) (fileStart s)
-unfolding checkTrayFile checkPixels
-file-at s e =
+file-at : (most : ℕ) (s : List ℕ) → checkFileTo most s ≡ 0 → FileAt most s (fileWidth s) (fileHeight s) (fileStart s)
+unfolding checkFileTo checkPixels
+file-at most s e =
     let t = header-step s _ e in
-    let f = check-step (leb (fileWidth s) 160) 13 _ (lit< tt) (t .3) in
-    let g = check-step (leb (fileHeight s) 160) 13 _ (lit< tt) (f .1) in
+    let f = check-step (leb (fileWidth s) most) 13 _ (lit< tt) (t .3) in
+    let g = check-step (leb (fileHeight s) most) 13 _ (lit< tt) (f .1) in
     let p = check-step (leb (fileStart s + fileWidth s * fileHeight s) (length s)) 2 0 (lit< tt) (g .1) in
     record {
       someWide = side-in (fileWidth s) (t .1) .0;
@@ -78,7 +73,7 @@ input-at s e = go (hasLetters s) e
   where
     go : (b : Bool) → cond b (checkTrayFile s) (checkRecord s) ≡ 0
         → InputAt s (cond b (fileWidth s) (widthOf s)) (cond b (fileHeight s) (heightOf s)) (cond b (fileStart s) 10)
-    go true e = file-at s e
+    go true e = file-at 160 s e
     go false e = record-at s e
 
 -- an answer that is a picture
@@ -92,6 +87,12 @@ same : (n w h at w′ h′ at′ : ℕ) → found n w′ h′ at′ ≡ Picture 
 unfolding found
 same zero w h at w′ h′ at′ e = record { no-refusal = refl; w-is = cc; h-is = cc; at-is = cc }
 same (suc n) w h at w′ h′ at′ e = absurd (let z : _≡_ {A = ℕ} 0 1 = cc in omega arith)
+
+pub file-picture : (most : ℕ) (s : List ℕ) (w h at : ℕ) → fileTo most s ≡ Picture w h at → FileAt most s w h at
+unfolding fileTo
+file-picture most s w h at e =
+    let q = same (checkFileTo most s) w h at (fileWidth s) (fileHeight s) (fileStart s) e in
+    rw (q .w-is, q .h-is, q .at-is) (file-at most s (q .no-refusal))
 
 pub picture-same : (s : List ℕ) (w h at : ℕ) → inputAnswer s ≡ Picture w h at
     → Same (checkInput s) w h at (inputWidth s) (inputHeight s) (inputStart s)
@@ -108,7 +109,7 @@ refuse-le true l m = m
 refuse-le false l m = l
 
 file-le : (s : List ℕ) → checkTrayFile s ≤ 15
-unfolding checkTrayFile checkHeader checkPixels
+unfolding checkFileTo checkHeader checkPixels
 file-le s =
     refuse-le (hasForm s && leb (fileStart s) 4096) (lit≤ tt)
     (refuse-le (eqb (fileMaximum s) 255) (lit≤ tt)

@@ -10,7 +10,7 @@ use mathlib.Core.Logic.{_⊎_, inl, inr}
 use mathlib.Core.List.{List}
 use Prim.Native.Nat.{ℕ, zero, suc, _+_, _-_, _*_, _≤_, _<_}
 use native.Mathlib.Omega.{arith}
-use lib.Dec.{leb}
+use lib.Dec.{leb, lit≤}
 use lib.ListN.{length, take, drop, length-take, length-drop}
 use lib.Seq.{getD-take, take-all}
 use Rattle.laws.proofs.Bools.{le-or-lt, which, clash, falsely}
@@ -25,11 +25,11 @@ use Rattle.pgm.proofs.Beside.{Outcome, steps-header}
 use Rattle.pgm.proofs.Counted.{at-grows, at-all, whole-later, told}
 use Rattle.pgm.proofs.Heads.{Fits, fits, header-gate}
 use Rattle.tray.specs.Record.{widthOf, heightOf, checkRecord, isHead, asked}
-use Rattle.tray.specs.Input.{checkSides, checkTrayFile, checkInput, inputWidth, inputHeight, inputStart, inputPixels}
+use Rattle.tray.specs.Input.{checkSides, checkFileTo, checkTrayFile, checkInput, inputWidth, inputHeight, inputStart, inputPixels}
 use Rattle.tray.specs.Input.{headRead, askedBy, reads}
 use Rattle.tray.specs.Claims.{ReadsWhole}
 use Rattle.tray.proofs.Records.{head-of}
-use Rattle.tray.proofs.Files.{sides-gate, tray-same, asked-some}
+use Rattle.tray.proofs.Files.{sides-gate, sides-same, asked-some}
 use Rattle.tray.proofs.Headers.{head-through, ended-through, not-whole}
 use Rattle.tray.proofs.Kept as kept
 
@@ -96,7 +96,7 @@ record FileKept (s t : List ℕ) : Type 0 where
   room : checkTrayFile s ≡ 0 → fileRoom s ≡ fileStart s + fileWidth s * fileHeight s
 
 no-form : (s : List ℕ) → (hasForm s && leb (fileStart s) 4096) ≡ false → checkTrayFile s ≡ 14
-unfolding checkTrayFile checkHeader
+unfolding checkFileTo checkHeader
 no-form s e = rw e
 
 -- the checks of a file behind its header
@@ -104,10 +104,10 @@ abbrev behind : List ℕ → ℕ → ℕ
 behind s rest = checkHeader s (checkSides (fileWidth s) (fileHeight s) rest)
 
 behind-gate : (s : List ℕ) → Gate (behind s)
-behind-gate s = header-gate s (sides-gate (fileWidth s) (fileHeight s))
+behind-gate s = header-gate s (sides-gate 160 (fileWidth s) (fileHeight s))
 
 file-behind : (s : List ℕ) → checkTrayFile s ≡ behind s (checkPixels s)
-unfolding checkTrayFile
+unfolding checkFileTo
 file-behind s = refl
 
 pixels-by : (s : List ℕ) → checkPixels s ≡ orRefuse (leb (fileStart s + fileWidth s * fileHeight s) (length s)) 2 0
@@ -119,7 +119,7 @@ module _ (s : List ℕ) (letters : hasLetters s ≡ true) where
   head-outcome = steps-header s letters
 
   head-check : checkHead (headRead s) (checkSides (headRead s .width) (headRead s .height) 0) ≡ behind s 0
-  head-check = tray-same s (headRead s) head-outcome
+  head-check = sides-same 160 (lit≤ tt) s (headRead s) head-outcome
 
   module _ (on : behind s 0 ≡ 0) where
     head-fits : Fits s (headRead s)
@@ -129,7 +129,7 @@ module _ (s : List ℕ) (letters : hasLetters s ≡ true) where
     room-is =
         let f = head-fits in
         ap₂ (λ (a b : ℕ). a + b) (f .at)
-        (sym (asked-some (headRead s) 0 (sym (head-check ∙ on)) refl) ∙ ap₂ (λ (a b : ℕ). a * b) (f .width) (f .height))
+        (sym (asked-some 160 (headRead s) 0 (sym (head-check ∙ on)) refl) ∙ ap₂ (λ (a b : ℕ). a * b) (f .width) (f .height))
 
   pub file-room : checkTrayFile s ≡ 0 → fileRoom s ≡ fileStart s + fileWidth s * fileHeight s
   file-room e = room-is (gate-zero (behind-gate s) (checkPixels s) (sym (file-behind s) ∙ e))

@@ -1,10 +1,11 @@
 -- What the tray list takes, as change request W1 has it: a PGM file where the input begins with the letters P5, else a record; and how
--- much of it the program reads. Definitions only. Assumes nothing.
+-- much of it the program reads. A file is taken with sides up to a greatest one, which for the tray list is 160. Definitions only. Assumes
+-- nothing.
 use mathlib.Core.Bool.{cond}
 use mathlib.Core.List.{List}
 use Prim.Native.Nat.{ℕ, _+_, _*_, _≤_}
 use lib.Dec.{leb, eqb}
-use lib.ListN.{take, drop}
+use lib.ListN.{length, take, drop}
 use Rattle.laws.specs.Check.{orRefuse}
 use Rattle.pgm.specs.Form.{hasLetters, fileWidth, fileHeight, fileStart}
 use Rattle.pgm.specs.Doors.{checkHeader, checkPixels, found}
@@ -14,16 +15,28 @@ use Rattle.pgm.specs.declared.File.{File}
 use Rattle.pgm.specs.declared.steps.Reading.{Reading}
 use Rattle.tray.specs.Record.{widthOf, heightOf, checkRecord, asked}
 
--- 13: a side over 160. What follows is `rest`.
-abbrev pub checkSides : ℕ → ℕ → ℕ → ℕ
-checkSides w h rest =
-    orRefuse (leb w 160) 13
-    (orRefuse (leb h 160) 13
+-- ---- a file with sides up to `most`
+-- 13: a side over `most`. What follows is `rest`.
+abbrev pub sidesTo : ℕ → ℕ → ℕ → ℕ → ℕ
+sidesTo most w h rest =
+    orRefuse (leb w most) 13
+    (orRefuse (leb h most) 13
     rest)
 
 -- The checks of a file: 14, 15 and 1, then 13, then 2.
-unfoldable pub checkTrayFile : List ℕ → ℕ
-checkTrayFile s = checkHeader s (checkSides (fileWidth s) (fileHeight s) (checkPixels s))
+unfoldable pub checkFileTo : ℕ → List ℕ → ℕ
+checkFileTo most s = checkHeader s (sidesTo most (fileWidth s) (fileHeight s) (checkPixels s))
+
+-- The answer for the number of a refusal, or the sides and the place of the pixels.
+unfoldable pub fileTo : ℕ → List ℕ → File
+fileTo most s = found (checkFileTo most s) (fileWidth s) (fileHeight s) (fileStart s)
+
+-- The tray list's.
+abbrev pub checkSides : ℕ → ℕ → ℕ → ℕ
+checkSides = sidesTo 160
+
+abbrev pub checkTrayFile : List ℕ → ℕ
+checkTrayFile = checkFileTo 160
 
 -- ---- the input, of either kind
 unfoldable pub checkInput : List ℕ → ℕ
@@ -52,15 +65,27 @@ abbrev pub headRead : List ℕ → Reading
 headRead s = stepsOver begun (drop 2 s)
 
 -- How many bytes of pixels a header asks for; one that is refused asks for none.
-unfoldable pub askedBy : Reading → ℕ
-askedBy h = cond (eqb (checkHead h (checkSides (h .width) (h .height) 0)) 0) (h .width * h .height) 0
+unfoldable pub askedTo : ℕ → Reading → ℕ
+askedTo most h = cond (eqb (checkHead h (sidesTo most (h .width) (h .height) 0)) 0) (h .width * h .height) 0
+
+abbrev pub askedBy : Reading → ℕ
+askedBy = askedTo 160
 
 -- How many bytes of an input the tray list reads at most: a file's header, then its pixels; the ten bytes of a record's head, then its
 -- pixels.
 unfoldable pub reads : List ℕ → ℕ
 reads s = cond (hasLetters s) (headRead s .at + askedBy (headRead s)) (10 + asked (take 10 s))
 
+-- What the answer of a picture tells: its sides w and h are up to `most`, and its pixels stand at a place of the list.
+pub record FileAt (most : ℕ) (s : List ℕ) (w h at : ℕ) : Type 0 where
+  pub someWide : 1 ≤ w
+  pub wide : w ≤ most
+  pub someHigh : 1 ≤ h
+  pub high : h ≤ most
+  pub near : at ≤ 4096
+  pub within : at + w * h ≤ length s
+
 -- What passed checks of a header's sides tell.
-pub record Small (h : Reading) : Type 0 where
-  pub wide : h .width ≤ 160
-  pub high : h .height ≤ 160
+pub record Small (most : ℕ) (h : Reading) : Type 0 where
+  pub wide : h .width ≤ most
+  pub high : h .height ≤ most

@@ -1,52 +1,51 @@
-// A PGM file for the tray list, whose sides are at most 160.
+// A PGM file whose sides are at most a number: for the tray list 160.
 use pgm::File;
 use pgm::steps::Reading;
 ghost use mathlib.Core.Bool.{true};
 ghost use mathlib.Core.Path.{_≡_};
-ghost use Prim.Native.Nat.{_≤_};
-ghost use Rattle.pgm.specs.Form.{hasLetters, fileWidth, fileHeight, fileStart};
-ghost use Rattle.pgm.specs.Doors.{found};
+ghost use Prim.Native.Nat.{_*_, _≤_};
+ghost use Rattle.pgm.specs.Form.{hasLetters};
 ghost use Rattle.pgm.specs.Head.{checkHead};
-ghost use Rattle.tray.specs.Input.{checkSides, checkTrayFile, askedBy, Small};
+ghost use Rattle.tray.specs.Input.{sidesTo, fileTo, askedTo, Small};
 
 // The number of the first check of a header that fails, 14, 15, 1 or 13; else 0.
-fn check(h: Reading) -> u32
-    ensures { λ r. ⌜ r ≡ checkHead h (checkSides (h .width) (h .height) 0) ⌝ }
-    ensures { λ r. ⌜ (r ≡ 0 → Small h) ⌝ }
+fn check(h: Reading, most: usize) -> u32
+    ensures { λ r. ⌜ r ≡ checkHead h (sidesTo most (h .width) (h .height) 0) ⌝ }
+    ensures { λ r. ⌜ (r ≡ 0 → Small most h) ⌝ }
 {
     let n = pgm::head::check_head(h);
     if n != 0 {
         return n;
     }
-    if 160 < h.width {
+    if most < h.width {
         return 13;
     }
-    if 160 < h.height {
+    if most < h.height {
         return 13;
     }
     0
 }
 
 // How many bytes of pixels a header asks for; 0 where it is refused.
-pub fn pixels(h: Reading) -> usize
-    ensures { λ r. ⌜ r ≡ askedBy h ⌝ }
-    ensures { λ r. ⌜ r ≤ 25600 ⌝ }
+pub fn pixels(h: Reading, most: usize) -> usize
+    requires { ⌜ most ≤ 4096 ⌝ }
+    ensures { λ r. ⌜ r ≡ askedTo most h ⌝ }
+    ensures { λ r. ⌜ r ≤ most * most ⌝ }
 {
-    if check(h) != 0 {
+    if check(h, most) != 0 {
         return 0;
     }
     h.width * h.height
 }
 
 // The picture of a file that begins with the letters.
-pub(crate) fn find(s: &[u8]) -> File
+pub fn find(s: &[u8], most: usize) -> File
     requires { ⌜ hasLetters (now s) ≡ true ⌝ }
-    ensures { λ r. ⌜
-        r ≡ found (checkTrayFile (now (s .entry))) (fileWidth (now (s .entry)))
-        (fileHeight (now (s .entry))) (fileStart (now (s .entry))) ⌝ }
+    requires { ⌜ most ≤ 4096 ⌝ }
+    ensures { λ r. ⌜ r ≡ fileTo most (now (s .entry)) ⌝ }
 {
     let h = pgm::steps::run(s);
-    let n = check(h);
+    let n = check(h, most);
     if n != 0 {
         return File::Refused(n);
     }

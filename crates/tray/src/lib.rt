@@ -13,7 +13,7 @@ pub fn find(s: &[u8]) -> File
     ensures { λ r. ⌜ r ≡ inputAnswer (now (s .entry)) ⌝ }
 {
     if pgm::has_letters(s) {
-        return file::find(s);
+        return file::find(s, 160);
     }
     record::find(s)
 }

@@ -1,60 +1,14 @@
 // The tray list: a PGM file or a record on standard input, its listing on standard output. A file's
 // header is read byte by byte, a record's head as ten bytes, then as many pixels as these ask for:
 // none where they are refused, and no byte past the pixels.
-use libc::STDIN_FILENO;
+use input::read_part;
+use input::read_rest;
 use libc::STDOUT_FILENO;
-use pgm::steps::Reading;
 ghost use mathlib.Core.Path.{_≡_};
 ghost use Prim.Native.Nat.{_+_, _≤_};
 ghost use lib.ListN.{length, take};
 ghost use Rattle.tray.specs.Record.{asked};
-ghost use Rattle.tray.specs.Input.{headRead, askedBy, reads};
-
-// Reads up to n bytes into the places from at on, and answers how many came. What stands before
-// them stays.
-fn read_part(bytes: &mut [u8], at: usize, n: usize) -> usize
-    requires { ⌜ (at + n ≤ length (now bytes)) × (at + n ≤ 29696) ⌝ }
-    ensures { λ r. ⌜ r ≤ n ⌝ }
-    ensures { λ _. ⌜ take at (now (bytes .exit)) ≡ take at (now (bytes .entry)) ⌝ }
-{
-    let end = at + n;
-    io::read_full(STDIN_FILENO, &mut bytes[at..end])
-}
-
-// Reads the header of a file behind its letters, byte by byte until it or the input has ended.
-fn read_header(bytes: &mut [u8]) -> Reading
-    requires { ⌜ 4096 ≤ length (now bytes) ⌝ }
-    ensures { λ r. ⌜ (2 ≤ r .at) × (r .at ≤ 4096) ⌝ }
-    ensures { λ r. ⌜ r ≡ headRead (take (r .at) (now (bytes .exit))) ⌝ }
-    ensures { λ _. ⌜ take 2 (now (bytes .exit)) ≡ take 2 (now (bytes .entry)) ⌝ }
-{
-    let mut h = pgm::steps::begin();
-    while h.at < 4096 {
-        if pgm::steps::ended(h) {
-            return h;
-        }
-        let at = h.at;
-        if read_part(bytes, at, 1) < 1 {
-            return h;
-        }
-        h = pgm::steps::step(h, bytes[at]);
-    }
-    h
-}
-
-// Reads a file behind its letters, and answers how many bytes there are.
-fn read_file(bytes: &mut [u8]) -> usize
-    requires { ⌜ 29696 ≤ length (now bytes) ⌝ }
-    ensures { λ r. ⌜ r ≤ 29696 ⌝ }
-    ensures { λ r. ⌜
-        r ≤ headRead (now (bytes .exit)) .at + askedBy (headRead (now (bytes .exit))) ⌝ }
-    ensures { λ _. ⌜ take 2 (now (bytes .exit)) ≡ take 2 (now (bytes .entry)) ⌝ }
-{
-    let h = read_header(bytes);
-    let at = h.at;
-    let more = tray::file::pixels(h);
-    at + read_part(bytes, at, more)
-}
+ghost use Rattle.tray.specs.Input.{reads};
 
 // How many bytes of pixels a head of n bytes asks for.
 fn pixels_after(bytes: &[u8], n: usize) -> usize
@@ -88,7 +42,7 @@ fn read_input(bytes: &mut [u8]) -> usize
         return n;
     }
     if pgm::has_letters(bytes) {
-        return read_file(bytes);
+        return read_rest(bytes, 160);
     }
     read_record(bytes)
 }

@@ -1,6 +1,7 @@
 -- `tray::find` meets its contract. Assumes nothing.
 use Rattle.tray.proofs.Inputs.{file-answer, record-answer}
 use mathlib.Core.Path.{_∙_, sym}
+use lib.Dec.{lit≤}
 use denote.Ref.{now}
 use borrow.Author.Needs.{needs}
 use Rattle.tray.proofs.find.Statement.{statement}
@@ -10,7 +11,7 @@ has-letters-requires : tie.Need-has-letters-requires
 has-letters-requires c κs = search needs
 
 find-requires : tie.Need-find-requires
-find-requires c κs = sym (c .before .has-letters .ensures) ∙ c .if1 .taken
+find-requires c κs = (sym (c .before .has-letters .ensures) ∙ c .if1 .taken, lit≤ tt)
 
 returns : tie.Need-returns
 returns c =

@@ -20,8 +20,8 @@ returns c =
 has-letters-requires : tie.Need-has-letters-requires
 has-letters-requires c κs = search needs
 
-read-file-requires : tie.Need-read-file-requires
-read-file-requires c κs = search needs
+read-rest-requires : tie.Need-read-rest-requires
+read-rest-requires c κs = search needs
 
 same-length-2 : tie.Need-same-length-2
 same-length-2 c = search needs
@@ -29,9 +29,9 @@ same-length-2 c = search needs
 returns-2 : tie.Need-returns-2
 returns-2 c =
     let p = c .before .before .before .before .before .before .before .before .before .before .read-part in
-    let f = c .before .before .read-file in
+    let f = c .before .before .read-rest in
     let letters = sym (c .before .before .before .before .before .has-letters .ensures) ∙ c .before .before .before .before .if2 .taken in
-    (f .ensures .0, letters-few (p .last .0) (f .last .0) (f .result) (f .ensures .1 .1) letters (f .ensures .1 .0))
+    (omega (arith, f .ensures .0 .1), letters-few (p .last .0) (f .last .0) (f .result) (f .ensures .1 .1) letters (f .ensures .1 .0))
 
 read-record-requires : tie.Need-read-record-requires
 read-record-requires c κs = search needs
@@ -54,7 +54,7 @@ read-input-spec =
     same-length
     returns
     has-letters-requires
-    read-file-requires
+    read-rest-requires
     same-length-2
     returns-2
     read-record-requires

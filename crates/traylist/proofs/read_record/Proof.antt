@@ -1,5 +1,6 @@
 -- `traylist::read_record` meets its contract. Assumes nothing.
-use Rattle.traylist.proofs.Reading.{stays, record-few}
+use Rattle.input.proofs.Reading.{stays}
+use Rattle.traylist.proofs.Reading.{record-few}
 use mathlib.Core.Path.{_∙_}
 use Prim.Native.Nat.{_+_}
 use native.Mathlib.Omega.{arith}

@@ -3,7 +3,7 @@
 use Rattle.listing.proofs.Texts.{region-nth, tray-nth}
 use lib.ListN.{getD}
 use Rattle.listing.proofs.Texts.{first-none, first-more, first-room, kept-count}
-use Rattle.listing.proofs.Pictures.{kept-four, listed, tray-region}
+use Rattle.region_outline.proofs.Points.{count-four}
 use Rattle.laws.proofs.Stores.{stored-length}
 use Rattle.laws.specs.Lent.{Stored}
 use Rattle.listing.specs.Listing.{firstLines}
@@ -31,13 +31,13 @@ mul-r : tie.Need-mul-r Inv-loop μ-loop
 mul-r c =
     let a = c .before .before .before .before .before .before .before .args in
     let e = c .before .before .before .before .before .before .before .pre in
-    omega (arith, kept-count (now (a .s)) (a .w) (a .h) (e .0) (a .k) (e .1 .1 .0), kept-four (now (a .s)) (a .w) (a .h) (e .0))
+    omega (arith, kept-count (now (a .s)) (a .w) (a .h) (e .0) (a .k) (e .1 .1 .0), count-four (plane (a .w) (now (a .s))) (a .w) (a .h))
 
 array-copy-out-r : tie.Need-array-copy-out-r Inv-loop μ-loop
 array-copy-out-r c =
     let a = c .before .before .before .before .before .before .before .args in
     let e = c .before .before .before .before .before .before .before .pre in
-    omega (arith, kept-count (now (a .s)) (a .w) (a .h) (e .0) (a .k) (e .1 .1 .0), kept-four (now (a .s)) (a .w) (a .h) (e .0))
+    omega (arith, kept-count (now (a .s)) (a .w) (a .h) (e .0) (a .k) (e .1 .1 .0), count-four (plane (a .w) (now (a .s))) (a .w) (a .h))
 
 region-lines-requires : tie.Need-region-lines-requires Inv-loop μ-loop
 region-lines-requires c κs =

@@ -7,7 +7,7 @@ use lib.Seq.{length-take-le}
 use denote.Ref.{now}
 use borrow.Author.Needs.{needs}
 use Rattle.listing.specs.Listing.{regionWord}
-use Rattle.listing.proofs.Pictures.{part-outlined, region-stored}
+use Rattle.listing.proofs.Pictures.{tray-sides, part-outlined, region-stored}
 use Rattle.listing.proofs.Pieces.{region-short, line-next}
 use Rattle.listing.proofs.describe.region_lines.Statement.{statement}
 use Rattle.listing.proofs.describe.region_lines.Tie as tie
@@ -29,8 +29,9 @@ slice-aggregate-region-points c = search needs
 
 region-points-requires : tie.Need-region-points-requires
 region-points-requires c κs =
+    let a = c .before .before .before .before .before .before .before .before .before .before .before .args in
     let e = c .before .before .before .before .before .before .before .before .before .before .before .pre in
-    (e .0, (e .1 .0, (e .1 .1 .0, omega arith)))
+    (tray-sides (now (a .s)) (a .w) (a .h) (e .0), (e .1 .0, (e .1 .1 .0 .boxed, omega (arith, e .0 .wide, e .0 .high))))
 
 mul-list : tie.Need-mul-list
 mul-list c = search needs
@@ -51,7 +52,7 @@ outline-lines-requires c κs =
     let e = d .before .before .before .before .before .pre in
     let o = c .before .before .before .region-points in (
       part-outlined (now (a .s)) (a .w) (a .h) (e .0) (a .r) (e .1 .1 .0)
-          (take (2 * o .result) (o .last .1 .1 .1 .1 .1 .1 .0)) (o .ensures .1),
+          (take (2 * o .result) (o .last .1 .1 .1 .1 .1 .1 .0)) (o .ensures .1 .0),
       line-next regionWord _ 53 (region-short (a .w) (a .h) (a .r) (e .1 .1 .0) (e .0 .wide) (e .0 .high))
           (omega (arith, e .1 .1 .1)) (c .before .before .before .before .before .before .before .line .ensures),
     )
@@ -66,7 +67,7 @@ returns c =
     let e = d .before .before .before .before .before .before .before .before .pre in
     let o = c .before .before .before .before .before .before .region-points in
     region-stored (now (a .s)) (a .w) (a .h) (e .0) (a .r) (e .1 .1 .0) (take (2 * o .result) (o .last .1 .1 .1 .1 .1 .1 .0))
-    (o .ensures .1) (d .line .ensures) (c .before .before .outline-lines .ensures)
+    (o .ensures .1 .0) (d .line .ensures) (c .before .before .outline-lines .ensures)
 
 pub region-lines-spec : {M : Type 1} → statement M
 region-lines-spec =

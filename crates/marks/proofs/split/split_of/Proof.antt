@@ -1,4 +1,4 @@
--- `split_of` makes four rounds from the mean, or fewer where one changes nothing. Assumes nothing.
+-- `split_of` makes four rounds from the mean, or fewer where no number changes sides after one. Assumes nothing.
 use mathlib.Core.Path.{refl}
 use borrow.Author.Needs.{needs}
 use Rattle.marks.proofs.Splits.{split-is, stays}
@@ -17,8 +17,8 @@ int-to-float-m c = search needs
 split-round-requires : tie.Need-split-round-requires
 split-round-requires c κs = search needs
 
-same-requires : tie.Need-same-requires
-same-requires c κs = search needs
+moved-requires : tie.Need-moved-requires
+moved-requires c κs = search needs
 
 returns : tie.Need-returns
 returns c =
@@ -26,14 +26,14 @@ returns c =
     let total = first .before .before in
     let w = total .before .before .args .w .now in
     let a = first .split-round .ensures in
-    let s = stays w _ (first .split-round .result) a (c .before .same .ensures (c .if1 .taken)) in
+    let s = stays w _ (first .split-round .result) a (c .before .moved .ensures (c .if1 .taken)) in
     split-is w (total .total .result) _ _ _ _ _ _ refl (total .total .ensures) refl a s s s
 
 split-round-requires-2 : tie.Need-split-round-requires-2
 split-round-requires-2 c κs = search needs
 
-same-requires-2 : tie.Need-same-requires-2
-same-requires-2 c κs = search needs
+moved-requires-2 : tie.Need-moved-requires-2
+moved-requires-2 c κs = search needs
 
 returns-2 : tie.Need-returns-2
 returns-2 c =
@@ -42,14 +42,14 @@ returns-2 c =
     let total = first .before .before in
     let w = total .before .before .args .w .now in
     let b = second .split-round2 .ensures in
-    let s = stays w _ (second .split-round2 .result) b (c .before .same2 .ensures (c .if2 .taken)) in
+    let s = stays w _ (second .split-round2 .result) b (c .before .moved2 .ensures (c .if2 .taken)) in
     split-is w (total .total .result) _ _ _ _ _ _ refl (total .total .ensures) refl (first .split-round .ensures) b s s
 
 split-round-requires-3 : tie.Need-split-round-requires-3
 split-round-requires-3 c κs = search needs
 
-same-requires-3 : tie.Need-same-requires-3
-same-requires-3 c κs = search needs
+moved-requires-3 : tie.Need-moved-requires-3
+moved-requires-3 c κs = search needs
 
 returns-3 : tie.Need-returns-3
 returns-3 c =
@@ -59,7 +59,7 @@ returns-3 c =
     let total = first .before .before in
     let w = total .before .before .args .w .now in
     let d = third .split-round3 .ensures in
-    let s = stays w _ (third .split-round3 .result) d (c .before .same3 .ensures (c .if3 .taken)) in
+    let s = stays w _ (third .split-round3 .result) d (c .before .moved3 .ensures (c .if3 .taken)) in
     split-is w (total .total .result) _ _ _ _ _ _ refl (total .total .ensures) refl (first .split-round .ensures)
     (second .split-round2 .ensures) d s
 
@@ -84,13 +84,13 @@ split-of-spec =
     cast-m
     int-to-float-m
     split-round-requires
-    same-requires
+    moved-requires
     returns
     split-round-requires-2
-    same-requires-2
+    moved-requires-2
     returns-2
     split-round-requires-3
-    same-requires-3
+    moved-requires-3
     returns-3
     split-round-requires-4
     returns-4)

@@ -11,31 +11,34 @@ check-head-requires c κs = search needs
 returns : tie.Need-returns
 returns c =
     let n = c .before .check-head in
-    (check-off (c .before .before .args .h) (n .result) (n .ensures) (c .if1 .taken), λ e. absurd (c .if1 .taken e))
+    (check-off (c .before .before .args .most) (c .before .before .args .h) (n .result) (n .ensures) (c .if1 .taken), λ e. absurd (c .if1 .taken e))
 
 returns-2 : tie.Need-returns-2
 returns-2 c =
+    let most = c .before .before .before .before .args .most in
     let h = c .before .before .before .before .args .h in
     let n = c .before .before .before .check-head in (
-      check-pass h (n .result) 13 (n .ensures) (c .before .before .if1 .left) (sides-wide (h .width) (h .height) (c .if2 .taken)),
+      check-pass most h (n .result) 13 (n .ensures) (c .before .before .if1 .left) (sides-wide most (h .width) (h .height) (c .if2 .taken)),
       λ e. absurd (omega arith),
     )
 
 returns-3 : tie.Need-returns-3
 returns-3 c =
+    let most = c .before .before .before .before .before .before .args .most in
     let h = c .before .before .before .before .before .before .args .h in
     let n = c .before .before .before .before .before .check-head in (
-      check-pass h (n .result) 13 (n .ensures) (c .before .before .before .before .if1 .left)
-          (sides-high (h .width) (h .height) (c .before .before .if2 .left) (c .if3 .taken)),
+      check-pass most h (n .result) 13 (n .ensures) (c .before .before .before .before .if1 .left)
+          (sides-high most (h .width) (h .height) (c .before .before .if2 .left) (c .if3 .taken)),
       λ e. absurd (omega arith),
     )
 
 returns-4 : tie.Need-returns-4
 returns-4 c =
+    let most = c .before .before .before .before .before .before .args .most in
     let h = c .before .before .before .before .before .before .args .h in
     let n = c .before .before .before .before .before .check-head in (
-      check-pass h (n .result) 0 (n .ensures) (c .before .before .before .before .if1 .left)
-          (sides-on (h .width) (h .height) (c .before .before .if2 .left) (c .if3 .left)),
+      check-pass most h (n .result) 0 (n .ensures) (c .before .before .before .before .if1 .left)
+          (sides-on most (h .width) (h .height) (c .before .before .if2 .left) (c .if3 .left)),
       λ e. record { wide = c .before .before .if2 .left; high = c .if3 .left },
     )
 

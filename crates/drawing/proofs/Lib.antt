@@ -1,0 +1,4 @@
+pub mod Points
+pub mod Dotted
+pub mod Pixels
+pub mod Controls

@@ -1,0 +1,4 @@
+pub mod Listed
+pub mod Swept
+pub mod Shared
+pub mod Answers

@@ -1,0 +1,3 @@
+pub mod Controls
+pub mod Numbers
+pub mod Texts
