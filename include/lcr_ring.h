@@ -8,8 +8,8 @@
  *
  * RESULTS. Every function answers one of these:
  *   LCR_OK (0)      the call is accepted; every out-parameter is written;
- *   1 to 15         the call is refused: the number of the first check that fails, in the order given with each
- *                   function. Out-parameters and lent lists are as before, but for refusal 4;
+ *   1 to 22         the call is refused: the number of the first check that fails, in the order given with each
+ *                   function; those in use are listed below. Out-parameters and lent lists are as before, but for refusal 4;
  *   LCR_NONE (255)  the call is accepted and there is nothing to answer; out-parameters are as before.
  *
  * LISTS. A list is a pointer to its first element and a length in elements, not bytes. An array with its
@@ -63,6 +63,8 @@ enum {
     LCR_RECORD = 13,     /* a record that is short or wrong; in a program also a PGM file with a side over what it takes */
     LCR_HEADER = 14,     /* a PGM header that does not follow the form, or does not end within the first 4,096 bytes */
     LCR_MAXIMUM = 15,    /* a PGM file's maximum value other than 255 */
+    LCR_RUN = 17,        /* a shortest run outside 2..8 */
+    LCR_ROW = 22,        /* a row of more than 60 pixels, or a place that is not below their number */
     LCR_NONE = 255       /* accepted, and there is nothing to answer */
 };
 
@@ -366,6 +368,25 @@ uint32_t lcr_pgm_write(const uint8_t *gray, size_t gray_len, size_t width, size_
  * Refusals of a PGM file in order: LCR_HEADER, LCR_MAXIMUM, LCR_SIDE, LCR_RECORD (a side over 160), LCR_BYTES. Refusal
  * of a record: LCR_RECORD. */
 uint32_t lcr_listing(const uint8_t *input, size_t input_len, uint8_t text[LCR_TEXT], size_t *len);
+
+/* ---- Noise ---------------------------------------------------------------------------------------------- */
+
+/* How often noise makes an outline: of all rows of `length` pixels, each pixel ink or not, how many have no outline
+ * point, and how many have an outline whose first and last pixel are two given places. The outline of a row goes from the
+ * start of its first run of `run` or more ink pixels to the end of its last.
+ *
+ *   run        the shortest run that counts, 2 to 8; lcr_outline takes 4
+ *   length     pixels of the row, 0 to 60
+ *   first      the pixel that the first run starts with, 0 to length - 1
+ *   last       the pixel that the last run ends with, 0 to length - 1. There is no row, and count is 0, where it lies
+ *              before first, or closer to it than a run is long
+ *   count      out: how many rows, of 2 to the power length
+ *
+ * The count of lcr_rows_without and those of lcr_rows_with for every first and last add up to 2 to the power length.
+ *
+ * Refusals in order: LCR_RUN, LCR_ROW. */
+uint32_t lcr_rows_without(uint32_t run, uint32_t length, uint64_t *count);
+uint32_t lcr_rows_with(uint32_t run, uint32_t length, uint32_t first, uint32_t last, uint64_t *count);
 
 #ifdef __cplusplus
 }

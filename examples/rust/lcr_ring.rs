@@ -1,5 +1,5 @@
 //! A safe wrapper of the ring finder: `find` and `tags` from a picture to its rings; the doors `map`, `outline` and `attempt`
-//! step by step; and PGM files, `pgm_read` and `pgm_write`.
+//! step by step; PGM files, `pgm_read` and `pgm_write`; and how often noise makes an outline, `rows_without` and `rows_with`.
 //!
 //! Link with libexports.a (`rt staticlib exports`). include/lcr_ring.h says what each function takes and gives.
 //! The lists that the doors want are made here, as long as they must be, so that no caller meets a refusal for one.
@@ -20,6 +20,8 @@ impl std::fmt::Display for Refusal {
             8 => "a version outside 1 to 64",
             14 => "no PGM header (P5) within the first 4,096 bytes",
             15 => "a PGM maximum value other than 255",
+            17 => "a shortest run outside 2 to 8",
+            22 => "more than 60 pixels, or a place not below their number",
             _ => "refused",
         };
         write!(f, "{what} (refusal {})", self.0)
@@ -106,6 +108,8 @@ unsafe extern "C" {
         buf: *mut f32, c: usize, many: *mut usize, tags: *mut f32) -> u32;
     fn lcr_pgm_read(file: *const u8, n: usize, width: *mut usize, height: *mut usize, at: *mut usize) -> u32;
     fn lcr_pgm_write(gray: *const u8, n: usize, width: usize, height: usize, out: *mut u8, m: usize, len: *mut usize) -> u32;
+    fn lcr_rows_without(run: u32, length: u32, count: *mut u64) -> u32;
+    fn lcr_rows_with(run: u32, length: u32, first: u32, last: u32, count: *mut u64) -> u32;
 }
 
 fn told(no: u32) -> Result<(), Refusal> {
@@ -253,4 +257,20 @@ pub fn pgm_write(gray: &[u8], width: usize, height: usize) -> Result<Vec<u8>, Re
     told(unsafe { lcr_pgm_write(gray.as_ptr(), gray.len(), width, height, out.as_mut_ptr(), out.len(), &mut len) })?;
     out.truncate(len);
     Ok(out)
+}
+
+/// How many of all rows of `length` pixels have no outline point, where `run` is the shortest run that counts.
+pub fn rows_without(run: u32, length: u32) -> Result<u64, Refusal> {
+    let mut count = 0;
+    // SAFETY: `count` is one number.
+    told(unsafe { lcr_rows_without(run, length, &mut count) })?;
+    Ok(count)
+}
+
+/// How many of them have an outline whose first pixel is `first` and whose last is `last`.
+pub fn rows_with(run: u32, length: u32, first: u32, last: u32) -> Result<u64, Refusal> {
+    let mut count = 0;
+    // SAFETY: `count` is one number.
+    told(unsafe { lcr_rows_with(run, length, first, last, &mut count) })?;
+    Ok(count)
 }

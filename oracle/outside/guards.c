@@ -6,7 +6,7 @@
  * begins, and once begins where one ends. A touch outside ends the program; so does the first of these that
  * fails, with 1 and the call's seed:
  *   the result and what every list holds afterwards are equal in both (a NaN equals a NaN);
- *   the result is the refusal that document 01's table, for PGM files its change request, has for these sizes, numbers
+ *   the result is the refusal that document 01's table, for PGM files and rows its change request, has for these sizes, numbers
  *   and bytes, or none where there is none; what is read of a PGM file, and written, is what was made;
  *   lists that are only read are as before, on a refusal or LCR_NONE all lists are;
  *   in an accepted call the places past those needed are as before.
@@ -569,6 +569,23 @@ static uint32_t make_listing(void) {
 }
 static uint32_t call_listing(void) { return lcr_listing(at(0), len(0), at(1), at(2)); }
 
+/* A shortest run, a row's pixels and two places, now and then out of range; the count is an out-parameter. */
+static uint32_t row[4];
+static uint32_t check_row(void) { return row[0] < 2 || row[0] > 8 ? LCR_RUN : row[1] > 60 ? LCR_ROW : LCR_OK; }
+static uint32_t make_row(void) {
+    row[0] = odds(10) ? odds(2) ? (uint32_t)below(12) : (uint32_t)next() : (uint32_t)(2 + below(7));
+    row[1] = odds(10) ? odds(2) ? (uint32_t)(58 + below(6)) : (uint32_t)next() : (uint32_t)below(61);
+    add(1, 8, 1, 0);
+    return check_row();
+}
+static uint32_t call_without(void) { return lcr_rows_without(row[0], row[1], at(0)); }
+static uint32_t make_places(void) {
+    make_row();
+    for (int i = 2; i < 4; i++) row[i] = odds(12) ? odds(2) ? row[1] : (uint32_t)next() : (uint32_t)below(row[1]);
+    return check_row() ? check_row() : row[2] >= row[1] || row[3] >= row[1] ? LCR_ROW : LCR_OK;
+}
+static uint32_t call_with(void) { return lcr_rows_with(row[0], row[1], row[2], row[3], at(0)); }
+
 static const struct {
     const char *name;
     uint32_t (*make)(void), (*call)(void);
@@ -586,7 +603,8 @@ static const struct {
     {"lcr_median", make_median, call_median}, {"lcr_mad_sigma", make_values, call_sigma},
     {"lcr_pgm_read", make_read, call_read}, {"lcr_pgm_write", make_write, call_write},
     {"lcr_listing", make_listing, call_listing}, {"lcr_find", make_find, call_find},
-    {"lcr_tags", make_tags, call_tags},
+    {"lcr_tags", make_tags, call_tags}, {"lcr_rows_without", make_row, call_without},
+    {"lcr_rows_with", make_places, call_with},
 };
 
 /* ---- one call, at both places */

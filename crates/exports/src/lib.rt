@@ -16,3 +16,4 @@ pub mod outlines;
 pub mod pictures;
 pub mod poses;
 pub mod rings;
+pub mod rows;

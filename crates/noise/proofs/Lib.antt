@@ -1,0 +1,9 @@
+pub mod Counting
+pub mod Solid
+pub mod Bare
+pub mod Middle
+pub mod Parted
+pub mod Product
+pub mod Answers
+pub mod Filling
+pub mod Controls
