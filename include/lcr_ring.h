@@ -64,6 +64,7 @@ enum {
     LCR_HEADER = 14,     /* a PGM header that does not follow the form, or does not end within the first 4,096 bytes */
     LCR_MAXIMUM = 15,    /* a PGM file's maximum value other than 255 */
     LCR_RUN = 17,        /* a shortest run outside 2..8 */
+    LCR_BOXES = 18,      /* box numbers not whole fours, or a box with x0 > x1, y0 > y1, x1 > width or y1 > height */
     LCR_ROW = 22,        /* a row of more than 60 pixels, or a place that is not below their number */
     LCR_NONE = 255       /* accepted, and there is nothing to answer */
 };
@@ -101,6 +102,24 @@ enum {
 uint32_t lcr_picture(const uint8_t *gray, size_t gray_len, size_t width, size_t height,
                      uint8_t *levels, size_t levels_len, uint32_t *labels, size_t labels_len,
                      uint32_t *stack, size_t stack_len, uint32_t regions[LCR_REGIONS]);
+
+/* ---- Darkness of boxes ---------------------------------------------------------------------------------- */
+
+/* The darkness door: how many ink pixels each of many boxes has, from a table of running counts that the same call fills.
+ * A pixel is ink where it is below the byte of its level cell.
+ *
+ *   gray, width, height     as lcr_picture has them
+ *   levels     at least LCR_LEVEL_CELLS bytes, row by row, as lcr_picture left them or any others
+ *   boxes      boxes_len numbers, four of each box: left, top, right and bottom in pixels, right and bottom exclusive:
+ *              x0 <= x1 <= width, y0 <= y1 <= height. A box with x0 = x1 or y0 = y1 is empty and has 0
+ *   table      out, at least (width + 1) x (height + 1) numbers: place (x, y), in rows of width + 1, has the number of
+ *              ink pixels with a column below x and a row below y
+ *   counts     out, at least boxes_len / 4 numbers: the ink pixels of each box
+ *
+ * Refusals in order: LCR_SIDE, LCR_BYTES, LCR_LENT, LCR_BOXES. All boxes are checked before anything is written. */
+uint32_t lcr_darkness(const uint8_t *gray, size_t gray_len, const uint8_t *levels, size_t levels_len,
+                      size_t width, size_t height, const uint32_t *boxes, size_t boxes_len,
+                      uint32_t *table, size_t table_len, uint32_t *counts, size_t counts_len);
 
 /* ---- Outlines, hulls and quads -------------------------------------------------------------------------- */
 

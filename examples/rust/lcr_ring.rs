@@ -1,5 +1,6 @@
 //! A safe wrapper of the ring finder: `find` and `tags` from a picture to its rings; the doors `map`, `outline` and `attempt`
-//! step by step; PGM files, `pgm_read` and `pgm_write`; and how often noise makes an outline, `rows_without` and `rows_with`.
+//! step by step; the ink of boxes, `darkness`; PGM files, `pgm_read` and `pgm_write`; and how often noise makes an outline,
+//! `rows_without` and `rows_with`.
 //!
 //! Link with libexports.a (`rt staticlib exports`). include/lcr_ring.h says what each function takes and gives.
 //! The lists that the doors want are made here, as long as they must be, so that no caller meets a refusal for one.
@@ -21,6 +22,7 @@ impl std::fmt::Display for Refusal {
             14 => "no PGM header (P5) within the first 4,096 bytes",
             15 => "a PGM maximum value other than 255",
             17 => "a shortest run outside 2 to 8",
+            18 => "a box with its sides exchanged, or past the picture's edge",
             22 => "more than 60 pixels, or a place not below their number",
             _ => "refused",
         };
@@ -94,6 +96,8 @@ pub struct Tag {
 unsafe extern "C" {
     fn lcr_picture(gray: *const u8, n: usize, width: usize, height: usize, levels: *mut u8, l: usize, labels: *mut u32, m: usize,
         stack: *mut u32, k: usize, regions: *mut u32) -> u32;
+    fn lcr_darkness(gray: *const u8, n: usize, levels: *const u8, l: usize, width: usize, height: usize, boxes: *const u32, b: usize,
+        table: *mut u32, t: usize, counts: *mut u32, c: usize) -> u32;
     fn lcr_outline(gray: *const u8, n: usize, levels: *const u8, l: usize, labels: *const u32, m: usize, want: u32, width: usize,
         height: usize, x0: usize, y0: usize, x1: usize, y1: usize, out: *mut f32, o: usize, points: *mut usize) -> u32;
     fn lcr_attempt(gray: *const u8, n: usize, width: usize, height: usize, points: *const f32, m: usize, most: u32,
@@ -152,6 +156,20 @@ pub fn map(gray: &[u8], width: usize, height: usize) -> Result<Map, Refusal> {
     let kept = r[2..].chunks_exact(6).take(r[1] as usize);
     let region = |k: &[u32]| Region { label: k[0], cells: k[1], left: k[2], top: k[3], right: k[4], bottom: k[5] };
     Ok(Map { levels, labels, all: r[0], kept: kept.map(region).collect() })
+}
+
+/// How many ink pixels each box has: left, top, right, bottom in pixels, the last two exclusive. The whole table is made for each call.
+pub fn darkness(gray: &[u8], width: usize, height: usize, map: &Map, boxes: &[[u32; 4]]) -> Result<Vec<u32>, Refusal> {
+    let places = if width <= 4096 && height <= 4096 { (width + 1) * (height + 1) } else { 0 };
+    let (numbers, mut table, mut counts) = (boxes.concat(), vec![0; places], vec![0; boxes.len()]);
+    // SAFETY: as above.
+    told(unsafe {
+        lcr_darkness(
+            gray.as_ptr(), gray.len(), map.levels.as_ptr(), map.levels.len(), width, height, numbers.as_ptr(), numbers.len(),
+            table.as_mut_ptr(), table.len(), counts.as_mut_ptr(), counts.len(),
+        )
+    })?;
+    Ok(counts)
 }
 
 /// The kept regions of a picture, largest first.

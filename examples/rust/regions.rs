@@ -71,3 +71,21 @@ fn samples_written_again() {
         assert_eq!(pgm_write(gray, width, 0), Err(Refusal(1)));
     }
 }
+
+/// The ink of boxes is that counted pixel by pixel: of each kept region's box, the whole picture and an empty box.
+#[test]
+fn boxes_counted() {
+    let (width, height, gray) = lcr_ring::pgm_read(include_bytes!("../../samples/shapes.pgm")).unwrap();
+    let map = lcr_ring::map(gray, width, height).unwrap();
+    let mut boxes: Vec<[u32; 4]> = map.kept.iter().map(|r| [r.left, r.top, r.right, r.bottom]).collect();
+    boxes.extend([[0, 0, width as u32, height as u32], [3, 5, 3, 9]]);
+    let is_ink = |x: usize, y: usize| gray[y * width + x] < map.levels[y / 16 * width.div_ceil(16) + x / 16];
+    let ink = |b: &[u32; 4]| {
+        let places = (b[1]..b[3]).flat_map(|y| (b[0]..b[2]).map(move |x| (x as usize, y as usize)));
+        places.filter(|&(x, y)| is_ink(x, y)).count() as u32
+    };
+    let counts = lcr_ring::darkness(gray, width, height, &map, &boxes).unwrap();
+    assert_eq!(counts, boxes.iter().map(ink).collect::<Vec<_>>());
+    assert!(counts[0] > 0);
+    assert_eq!(lcr_ring::darkness(gray, width, height, &map, &[[1, 0, 0, 1]]), Err(lcr_ring::Refusal(18)));
+}

@@ -30,6 +30,8 @@ mod ways;
 #[cfg(ours)]
 mod bench;
 #[cfg(ours)]
+mod bench_darkness;
+#[cfg(ours)]
 mod bench_leaves;
 #[cfg(ours)]
 mod compare;
@@ -53,7 +55,7 @@ use std::io::{Read, Write};
 
 const USAGE: &str = "usage: oracle WORD ..: without the finder traylist, sample, dump, attempt, attempt-verbose, attempt-case SEED I, ways SEED N, \
 picks, calc, fuzz SEED N, vectors AREA, program PATH SEED N; with it compare AREA|all SEED SECONDS [MOST], compare-selftest, replay FILE, poses, \
-found PICTURES SEED [FIRST], bench [SEED], bench-leaves, largest";
+found PICTURES SEED [FIRST], bench [SEED], bench-darkness [SEED], bench-leaves, largest";
 
 const AREAS: &[&calls::Area] = &[
     &border::AREA, &ieee::AREA, &math::AREA, &transform::AREA, &marks::AREA, &fit::AREA, &ring::AREA, &attempts::AREA, &picture::AREA,
@@ -93,6 +95,7 @@ fn with_finder(a: &Said) -> bool {
         "poses" => functions::poses(),
         "found" => found::run(a.num(2, 20000), a.num(3, 1), a.num(4, 0)),
         "bench" => bench::run(a.num(2, 1)),
+        "bench-darkness" => bench_darkness::run(a.num(2, 1)),
         "bench-leaves" => bench_leaves::run(),
         "largest" => largest::run(a.num(2, 1)),
         _ => return false,
@@ -102,7 +105,7 @@ fn with_finder(a: &Said) -> bool {
 
 #[cfg(not(ours))]
 fn with_finder(a: &Said) -> bool {
-    let known = ["compare", "compare-selftest", "replay", "poses", "found", "bench", "bench-leaves", "largest"].contains(&a.word(1));
+    let known = ["compare", "compare-selftest", "replay", "poses", "found", "bench", "bench-darkness", "bench-leaves", "largest"].contains(&a.word(1));
     if known {
         eprintln!("this build has no finder linked: oracle/run without LCR_ALONE builds one that has");
         std::process::exit(2);

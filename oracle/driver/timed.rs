@@ -124,7 +124,7 @@ pub fn both(mut rust: impl FnMut(), mut ours: impl FnMut()) -> (f64, f64) {
     (median(a), median(b))
 }
 
-fn median(mut v: Vec<f64>) -> f64 {
+pub fn median(mut v: Vec<f64>) -> f64 {
     v.sort_by(f64::total_cmp);
     v[v.len() / 2]
 }

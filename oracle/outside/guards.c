@@ -246,6 +246,35 @@ static uint32_t call_outline(void) {
     return r;
 }
 
+/* Boxes within the picture; now and then one is not, or a number too many. */
+static void boxes(size_t n) {
+    uint32_t *b = add(4 * n + (odds(12) ? 1 + below(3) : 0), 4, 0, 0);
+    for (size_t i = 0; i < 2 * n; i++) {
+        size_t s = i % 2 ? h : w, k = i / 2 * 4 + i % 2, from = below(s + 1);
+        b[k] = (uint32_t)from, b[k + 2] = (uint32_t)(odds(4) ? s : from + below(s - from + 1));
+    }
+    if (n && odds(6)) b[below(4 * n)] = odds(3) ? UINT32_MAX : (uint32_t)below(w + h + 3);
+}
+static int boxes_fit(const uint32_t *b, size_t n) {
+    for (size_t i = 0; i < n; i += 4)
+        if (b[i] > b[i + 2] || b[i + 1] > b[i + 3] || b[i + 2] > w || b[i + 3] > h) return 0;
+    return n % 4 == 0;
+}
+static uint32_t make_darkness(void) {
+    gray(120, &w, &h);
+    size_t l = LCR_LEVEL_CELLS(w % 5000, h % 5000), t = (w % 5000 + 1) * (h % 5000 + 1), n = below(odds(30) ? 2000 : 40);
+    if (t > 200000) l = t = 100;
+    add(near(l), 1, 0, 0), boxes(n), add(near(t), 4, 1, 0), add(near(n), 4, 1, 0);
+    list[3].need = t, list[4].need = n;
+    uint32_t no = picture_check(len(0), w, h);
+    if (no) return no;
+    if (len(1) < l || len(3) < t || len(4) < n) return LCR_LENT;
+    return boxes_fit((const uint32_t *)(void *)list[2].before, len(2)) ? LCR_OK : LCR_BOXES;
+}
+static uint32_t call_darkness(void) {
+    return lcr_darkness(at(0), len(0), at(1), len(1), w, h, at(2), len(2), at(3), len(3), at(4), len(4));
+}
+
 static uint32_t make_hull(void) {
     size_t n = odds(4) ? below(300) : below(30);
     floats(add(n, 4, 0, 4), n, (int)below(3), odds(4) ? 9 : 0);
@@ -604,7 +633,7 @@ static const struct {
     {"lcr_pgm_read", make_read, call_read}, {"lcr_pgm_write", make_write, call_write},
     {"lcr_listing", make_listing, call_listing}, {"lcr_find", make_find, call_find},
     {"lcr_tags", make_tags, call_tags}, {"lcr_rows_without", make_row, call_without},
-    {"lcr_rows_with", make_places, call_with},
+    {"lcr_rows_with", make_places, call_with}, {"lcr_darkness", make_darkness, call_darkness},
 };
 
 /* ---- one call, at both places */

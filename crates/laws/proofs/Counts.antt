@@ -1,7 +1,7 @@
 -- Laws of the least number that meets a test and of counts.
 --     least-..                       where the least is, and that none is before it
 --     count-yes, count-no, count-step, count-every   one number more; every number
---     count-ext, count-mono, count-le, count-lt, count-add, count-none   counts of two tests
+--     count-ext, count-mono, count-le, count-lt, count-add, count-none, count-zero   counts of two tests, and of none
 --     count-into                     a map that takes no two to one shows that these are no more
 -- Assumes nothing.
 use mathlib.Core.Path.{_≡_, refl, sym, _∙_, ap, subst}
@@ -147,6 +147,9 @@ pub count-none : (p : ℕ → Bool) (k : ℕ) → ((c : ℕ) → c < k → p c �
 unfolding count
 count-none p zero h = refl
 count-none p (suc k) h = count-no p k (h k (omega arith)) ∙ count-none p k (λ c b. h c (omega arith))
+
+pub count-zero : (p : ℕ → Bool) (k : ℕ) → count p k ≡ 0 → (c : ℕ) → c < k → p c ≡ false
+count-zero p k e c l = ⊎-elim (λ t. absurd (omega (arith, count-step p c k l t, e))) (λ t. t) (which (p c))
 
 -- `q` without `b`
 but : (ℕ → Bool) → ℕ → ℕ → Bool

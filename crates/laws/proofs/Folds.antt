@@ -2,6 +2,7 @@
 --     fold-..                        one step, equal functions, from the other end, two folds joined, rows against columns
 --     first-.., end-..               the first and the last that pass a test; first-turn: read backwards, one is the other
 --     tab-.., is-tab, written-..     lists written from a function
+--     bit-le                         a bit is at most 1
 -- Assumes nothing.
 use mathlib.Core.Path.{_≡_, refl, sym, ap, _∙_}
 use mathlib.Core.Bool.{Bool, true, false, cond}
@@ -13,7 +14,7 @@ use native.Mathlib.Numerals.{add-one}
 use native.Mathlib.Omega.{arith}
 use lib.ListN.{length, getD, set, drop, length-append, length-drop, List·getD-append}
 use lib.Seq.{ext-getD, drop-cons, set-at, getD-at, drop-at, append-snoc}
-use Rattle.laws.specs.Fold.{endOf, fold, first, tab, written}
+use Rattle.laws.specs.Fold.{bit, endOf, fold, first, tab, written}
 
 -- ---- folds
 module _ (op : ℕ → ℕ → ℕ) (e : ℕ) where
@@ -237,3 +238,7 @@ first-turn (suc n) t u same =
 -- a list with those values is the table
 pub is-tab : (n : ℕ) (f : ℕ → ℕ) (l : List ℕ) → length l ≡ n → ((j : ℕ) → j < n → getD l j 0 ≡ f j) → l ≡ tab n f
 is-tab n f l e same = ext-getD 0 l (tab n f) (e ∙ sym (length-tab n f)) (λ i b. same i (omega arith) ∙ sym (getD-tab n f i 0 (omega arith)))
+
+pub bit-le : (b : Bool) → bit b ≤ 1
+bit-le true = omega arith
+bit-le false = omega arith
