@@ -1,6 +1,7 @@
 -- A row of 14 level cells, 224 by 16 pixels: its thresholds by the levels of its cells, through lists that are computed once each.
 --     iter, iter-is            the passes over a grid in a list
 --     row-dark-first           the first cell with dark 0, the others with 248, all with light 255: 204 up to cell 11, then 0
+--     row-light                all cells with dark 248 and light 255: 0 everywhere
 --     row-to-11, row-12        document 01's line
 -- Assumes nothing.
 use mathlib.Core.Bool.{cond}
@@ -16,8 +17,7 @@ use Rattle.laws.proofs.Planes.{plane-drawn}
 use Rattle.laws.specs.Fold.{fold, tab}
 use Rattle.laws.specs.Plane.{Alike, Plane, box, boxRow, drawn, plane}
 use Rattle.margin.specs.Threshold.{margin, share, threshold}
-use Rattle.levels.proofs.Fill.{fill-ext, passes-ext}
-use Rattle.levels.proofs.Near.{sharp-ext}
+use Rattle.levels.proofs.Reach.{fill-ext, passes-ext, sharp-ext}
 use Rattle.levels.specs.Level.{dark, east, fillAt, leastNear, level, light, mean, mostNear, north, passes, sharp, south, west}
 use Rattle.levels.proofs.Spots.{flat-spotted, spot-dark-few, spot-dark-many, spot-light-few}
 use Rattle.levels.specs.Spots.{RowOf14, Spotted}
@@ -79,10 +79,31 @@ row-light-is : (p : Plane) → ((x : ℕ) → x < 14 → light p 224 16 x 0 ≡ 
 row-light-is p all x zero lx ly = all x lx
 row-light-is p all x (suc y) lx ly = absurd (omega arith)
 
-row-dark-first : (p : Plane) → dark p 224 16 0 0 ≡ 0 → ((x : ℕ) → 1 ≤ x → x < 14 → dark p 224 16 x 0 ≡ 248)
+pub row-dark-first : (p : Plane) → dark p 224 16 0 0 ≡ 0 → ((x : ℕ) → 1 ≤ x → x < 14 → dark p 224 16 x 0 ≡ 248)
     → ((x : ℕ) → x < 14 → light p 224 16 x 0 ≡ 255) → (x : ℕ) → x < 14 → level p 224 16 x 0 ≡ getD filled x 0
 row-dark-first p first others lights x lx =
     row-of p rowDark (λ x y. 255) sharpened filled (row-dark-is p first others) (row-light-is p lights) sharp-row filled-row x lx
+
+-- ---- no cell with dark 0
+abbrev none : List ℕ
+none = 0 ∷ 0 ∷ 0 ∷ 0 ∷ 0 ∷ 0 ∷ 0 ∷ 0 ∷ 0 ∷ 0 ∷ 0 ∷ 0 ∷ 0 ∷ 0 ∷ []
+
+sharp-none : drawn 14 1 (sharp 14 1 (λ x y. 248) (λ x y. 255)) [] ≡ none
+unfolding tab sharp leastNear mostNear box boxRow fold threshold share margin Ieee.toUnsigned Ieee.sub Ieee.mul Ieee.ofInt Ieee.ofBits
+sharp-none = refl
+
+filled-none : iter 14 1 8 none ≡ none
+unfolding iter tab fillAt west east north south mean
+filled-none = refl
+
+pub row-light : (p : Plane) → ((x : ℕ) → x < 14 → dark p 224 16 x 0 ≡ 248) → ((x : ℕ) → x < 14 → light p 224 16 x 0 ≡ 255)
+    → (x : ℕ) → x < 14 → level p 224 16 x 0 ≡ getD none x 0
+row-light p darks lights x lx =
+    row-of p (λ x y. 248) (λ x y. 255) none none flat (row-light-is p lights) sharp-none filled-none x lx
+  where
+    flat : Alike 14 1 (dark p 224 16) (λ x y. 248)
+    flat x zero l m = darks x l
+    flat x (suc y) l m = absurd (omega arith)
 
 -- ---- document 01's line
 to-11 : (x : ℕ) → x ≤ 11 → getD filled x 0 ≡ 204

@@ -6,7 +6,7 @@ use denote.Ref.{now}
 use Rattle.laws.proofs.Past.{past-then, past-written}
 use Rattle.laws.specs.Lent.{UntouchedPast}
 use Rattle.laws.specs.Plane.{drawn, plane, rowwise}
-use Rattle.levels.proofs.Near.{darks-bytes, grid-of, level-drawn, level-is, lights-bytes}
+use Rattle.levels.proofs.Grids.{darks-bytes, grid-of, level-drawn, level-is, lights-bytes}
 use Rattle.levels.specs.Level.{cells, dark, light, passes, sharp}
 use Rattle.levels.proofs.level_grid.Statement.{statement}
 use Rattle.levels.proofs.level_grid.Tie as tie

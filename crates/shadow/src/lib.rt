@@ -1,0 +1,2 @@
+// How far a shadow reaches: theorems only.
+pub mod claims;
