@@ -63,6 +63,7 @@ enum {
     LCR_RECORD = 13,     /* a record that is short or wrong; in a program also a PGM file with a side over what it takes */
     LCR_HEADER = 14,     /* a PGM header that does not follow the form, or does not end within the first 4,096 bytes */
     LCR_MAXIMUM = 15,    /* a PGM file's maximum value other than 255 */
+    LCR_PLATE = 16,      /* a pitch outside 1..16, a corner outside 0..3, or a picture side below (version side + 10) x pitch */
     LCR_RUN = 17,        /* a shortest run outside 2..8 */
     LCR_BOXES = 18,      /* box numbers not whole fours, or a box with x0 > x1, y0 > y1, x1 > width or y1 > height */
     LCR_ROW = 22,        /* a row of more than 60 pixels, or a place that is not below their number */
@@ -387,6 +388,41 @@ uint32_t lcr_pgm_write(const uint8_t *gray, size_t gray_len, size_t width, size_
  * Refusals of a PGM file in order: LCR_HEADER, LCR_MAXIMUM, LCR_SIDE, LCR_RECORD (a side over 160), LCR_BYTES. Refusal
  * of a record: LCR_RECORD. */
 uint32_t lcr_listing(const uint8_t *input, size_t input_len, uint8_t text[LCR_TEXT], size_t *len);
+
+/* ---- Proof rings ---------------------------------------------------------------------------------------- */
+
+/* A proof ring: the ring of a version drawn into a picture, in any of the eight poses, to check plates by.
+ *
+ *   version    1 to 64
+ *   pitch      pixels on a side of a cell, 1 to 16
+ *   corner     0 to 3: the corner of the ring's square where position 0 is, clockwise from the upper left one
+ *   reversed   whether the ring runs backwards, which is anticlockwise in the picture
+ *   gray       out, exactly width x height bytes, all of which are written: 0 in the dark cells of the ring, else 255
+ *   width      pixels, (version side + 10) x pitch to 4,096
+ *   height     the same
+ *
+ * Cell (x, y) of the ring's square, -3 to version side + 2 each, covers the pixels from ((x + 5) x pitch, (y + 5) x pitch)
+ * on, so that two cells of 255 lie before it on the left and above, and at least two behind it. At corner 0, forwards, a
+ * position's outer cell carries its mark (lcr_sequence_light), and at every third position from 0 on its inner cell does
+ * too, where lcr_position tells that the inner cell is of this position. Reversed, columns and rows of the square are
+ * swapped; corner r then turns it r quarter turns clockwise.
+ *
+ * Refusals in order: LCR_VERSION, LCR_SIDE, LCR_BYTES, LCR_PLATE. */
+uint32_t lcr_draw_ring(uint32_t version, uint32_t pitch, uint32_t corner, bool reversed, uint8_t *gray, size_t gray_len,
+                       size_t width, size_t height);
+
+/* The marks of a ring that lies in a picture where lcr_draw_ring draws it, from the centres of its outer cells.
+ *
+ *   version, pitch, width, height     as lcr_draw_ring has them
+ *   gray       exactly width x height bytes, any
+ *   marks      out, exactly one a position: whether it is light, which is that the byte at the centre of the position's
+ *              outer cell (x, y) is 128 or more: the one of the pixel ((x + 5) x pitch + pitch / 2, (y + 5) x pitch +
+ *              pitch / 2), halves rounded down. Of a ring that lcr_draw_ring drew, lcr_correlate tells the drawn corner
+ *              and direction from them, with score 1; at no other pose do all positions agree
+ *
+ * Refusals in order: LCR_VERSION, LCR_SIDE, LCR_BYTES, LCR_PLATE (of pitch and sides), LCR_MARKS. */
+uint32_t lcr_read_ring(uint32_t version, uint32_t pitch, const uint8_t *gray, size_t gray_len, size_t width, size_t height,
+                       bool *marks, size_t marks_len);
 
 /* ---- Noise ---------------------------------------------------------------------------------------------- */
 

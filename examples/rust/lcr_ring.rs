@@ -1,6 +1,6 @@
 //! A safe wrapper of the ring finder: `find` and `tags` from a picture to its rings; the doors `map`, `outline` and `attempt`
-//! step by step; the ink of boxes, `darkness`; PGM files, `pgm_read` and `pgm_write`; and how often noise makes an outline,
-//! `rows_without` and `rows_with`.
+//! step by step; the ink of boxes, `darkness`; PGM files, `pgm_read` and `pgm_write`; proof rings, `draw_ring` and `read_ring`; and
+//! how often noise makes an outline, `rows_without` and `rows_with`.
 //!
 //! Link with libexports.a (`rt staticlib exports`). include/lcr_ring.h says what each function takes and gives.
 //! The lists that the doors want are made here, as long as they must be, so that no caller meets a refusal for one.
@@ -21,6 +21,7 @@ impl std::fmt::Display for Refusal {
             8 => "a version outside 1 to 64",
             14 => "no PGM header (P5) within the first 4,096 bytes",
             15 => "a PGM maximum value other than 255",
+            16 => "a pitch outside 1 to 16, a corner outside 0 to 3, or a picture too small for the ring",
             17 => "a shortest run outside 2 to 8",
             18 => "a box with its sides exchanged, or past the picture's edge",
             22 => "more than 60 pixels, or a place not below their number",
@@ -112,6 +113,8 @@ unsafe extern "C" {
         buf: *mut f32, c: usize, many: *mut usize, tags: *mut f32) -> u32;
     fn lcr_pgm_read(file: *const u8, n: usize, width: *mut usize, height: *mut usize, at: *mut usize) -> u32;
     fn lcr_pgm_write(gray: *const u8, n: usize, width: usize, height: usize, out: *mut u8, m: usize, len: *mut usize) -> u32;
+    fn lcr_draw_ring(version: u32, pitch: u32, corner: u32, reversed: bool, gray: *mut u8, n: usize, width: usize, height: usize) -> u32;
+    fn lcr_read_ring(version: u32, pitch: u32, gray: *const u8, n: usize, width: usize, height: usize, marks: *mut bool, m: usize) -> u32;
     fn lcr_rows_without(run: u32, length: u32, count: *mut u64) -> u32;
     fn lcr_rows_with(run: u32, length: u32, first: u32, last: u32, count: *mut u64) -> u32;
 }
@@ -275,6 +278,23 @@ pub fn pgm_write(gray: &[u8], width: usize, height: usize) -> Result<Vec<u8>, Re
     told(unsafe { lcr_pgm_write(gray.as_ptr(), gray.len(), width, height, out.as_mut_ptr(), out.len(), &mut len) })?;
     out.truncate(len);
     Ok(out)
+}
+
+/// The ring of a version drawn into a whole picture, `pitch` pixels a cell: position 0 in the given corner, clockwise from the
+/// upper left one, and running backwards where `reversed`.
+pub fn draw_ring(version: u32, pitch: u32, corner: u32, reversed: bool, width: usize, height: usize) -> Result<Vec<u8>, Refusal> {
+    let mut gray = vec![0; if width <= 4096 && height <= 4096 { width * height } else { 0 }];
+    // SAFETY: as above.
+    told(unsafe { lcr_draw_ring(version, pitch, corner, reversed, gray.as_mut_ptr(), gray.len(), width, height) })?;
+    Ok(gray)
+}
+
+/// The marks of a ring that lies where `draw_ring` draws it, light or not, from the centres of its cells.
+pub fn read_ring(version: u32, pitch: u32, gray: &[u8], width: usize, height: usize) -> Result<Vec<bool>, Refusal> {
+    let mut marks = vec![false; if version <= 64 { 16 * version as usize + 88 } else { 0 }];
+    // SAFETY: as above.
+    told(unsafe { lcr_read_ring(version, pitch, gray.as_ptr(), gray.len(), width, height, marks.as_mut_ptr(), marks.len()) })?;
+    Ok(marks)
 }
 
 /// How many of all rows of `length` pixels have no outline point, where `run` is the shortest run that counts.

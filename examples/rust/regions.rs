@@ -89,3 +89,24 @@ fn boxes_counted() {
     assert!(counts[0] > 0);
     assert_eq!(lcr_ring::darkness(gray, width, height, &map, &[[1, 0, 0, 1]]), Err(lcr_ring::Refusal(18)));
 }
+
+/// A drawn ring reads back with as many dark marks at each corner, and the finder finds its version and direction.
+#[test]
+fn drawn_found() {
+    use lcr_ring::{Refusal, draw_ring, find, read_ring};
+    let dark = |marks: &[bool]| marks.iter().filter(|m| !**m).count();
+    let first = read_ring(7, 4, &draw_ring(7, 4, 0, false, 220, 221).unwrap(), 220, 221).unwrap();
+    for corner in 0..4 {
+        for reversed in [false, true] {
+            let gray = draw_ring(7, 4, corner, reversed, 220, 221).unwrap();
+            let marks = read_ring(7, 4, &gray, 220, 221).unwrap();
+            assert_eq!((marks.len(), dark(&marks)), (200, dark(&first)));
+            assert_eq!(marks == first, corner == 0 && !reversed);
+            let fix = find(&gray, 220, 221, 64).unwrap().trace.fix.unwrap();
+            assert_eq!((fix.version, fix.mirrored), (7, reversed));
+        }
+    }
+    assert_eq!(draw_ring(7, 4, 0, false, 220, 219), Err(Refusal(16)));
+    assert_eq!(draw_ring(0, 17, 4, false, 0, 1), Err(Refusal(8)));
+    assert_eq!(read_ring(65, 4, &[], 0, 0), Err(Refusal(8)));
+}

@@ -6,8 +6,9 @@
  * begins, and once begins where one ends. A touch outside ends the program; so does the first of these that
  * fails, with 1 and the call's seed:
  *   the result and what every list holds afterwards are equal in both (a NaN equals a NaN);
- *   the result is the refusal that document 01's table, for PGM files and rows its change request, has for these sizes, numbers
- *   and bytes, or none where there is none; what is read of a PGM file, and written, is what was made;
+ *   the result is the refusal that document 01's table, for PGM files, rows and proof rings its change request, has for these sizes,
+ *   numbers and bytes, or none where there is none; what is read of a PGM file, and written, is what was made; a drawn proof ring
+ *   has bytes 0 and 255 only, and marks that are read are those of the bytes at the cells' centres;
  *   lists that are only read are as before, on a refusal or LCR_NONE all lists are;
  *   in an accepted call the places past those needed are as before.
  *
@@ -615,6 +616,51 @@ static uint32_t make_places(void) {
 }
 static uint32_t call_with(void) { return lcr_rows_with(row[0], row[1], row[2], row[3], at(0)); }
 
+/* Proof rings: sides near those that version and pitch need, or any; now and then a number out of range. */
+static uint32_t pitch, corner;
+static uint32_t make_plate(int reads) {
+    ver = odds(10) ? version() : (uint32_t)(1 + below(odds(3) ? 64 : 8));
+    pitch = odds(10) ? odds(2) ? (uint32_t)below(20) : (uint32_t)next() : (uint32_t)(1 + below(odds(3) ? 16 : 4));
+    corner = odds(10) ? odds(2) ? (uint32_t)below(8) : (uint32_t)next() : (uint32_t)below(4);
+    size_t cells = 27 + 4 * (size_t)(ver % 256), is = pitch >= 1 && pitch <= 16;
+    if (is && cells * pitch > 900) pitch = 1;
+    size_t need = is ? cells * pitch : cells;
+    w = odds(12) ? side_of(900) : near(need), h = odds(12) ? side_of(900) : near(need);
+    size_t n = w * h > AREA ? below(500) : odds(25) ? below(w * h + 2) : w * h;
+    add(n, 1, !reads, 0), word = (uint32_t)below(2);
+    list[0].need = n;
+    if (!is_version(ver)) return LCR_VERSION;
+    uint32_t no = picture_check(n, w, h);
+    if (no) return no;
+    return !is || (!reads && corner > 3) || w < need || h < need ? LCR_PLATE : LCR_OK;
+}
+static uint32_t make_draw(void) { return make_plate(0); }
+static uint32_t call_draw(void) {
+    const uint8_t *g = at(0);
+    uint32_t r = lcr_draw_ring(ver, pitch, corner, word, at(0), len(0), w, h);
+    for (size_t i = 0; r == LCR_OK && i < len(0); i++)
+        if (g[i] != 0 && g[i] != 255) fail("another byte than 0 and 255", 0);
+    return r;
+}
+static uint32_t make_read_ring(void) {
+    uint32_t no = make_plate(1);
+    size_t n = positions_of(ver);
+    add(odds(12) ? below(n + 20) : n, 1, 1, 0);
+    return no ? no : len(1) != n ? LCR_MARKS : LCR_OK;
+}
+static uint32_t call_read_ring(void) {
+    const uint8_t *g = at(0);
+    const bool *marks = at(1);
+    uint32_t r = lcr_read_ring(ver, pitch, at(0), len(0), w, h, at(1), len(1));
+    for (size_t p = 0; r == LCR_OK && p < len(1); p++) {
+        int32_t x, y;
+        lcr_outer_cell(ver, p, &x, &y);
+        size_t px = (size_t)(x + 5) * pitch + pitch / 2, py = (size_t)(y + 5) * pitch + pitch / 2;
+        if (marks[p] != (g[py * w + px] >= 128)) fail("another mark than the byte at its cell's centre", 1);
+    }
+    return r;
+}
+
 static const struct {
     const char *name;
     uint32_t (*make)(void), (*call)(void);
@@ -634,6 +680,7 @@ static const struct {
     {"lcr_listing", make_listing, call_listing}, {"lcr_find", make_find, call_find},
     {"lcr_tags", make_tags, call_tags}, {"lcr_rows_without", make_row, call_without},
     {"lcr_rows_with", make_places, call_with}, {"lcr_darkness", make_darkness, call_darkness},
+    {"lcr_draw_ring", make_draw, call_draw}, {"lcr_read_ring", make_read_ring, call_read_ring},
 };
 
 /* ---- one call, at both places */
@@ -706,6 +753,7 @@ static void refuse_versions(void) {
             lcr_find(g, 4, 2, 2, v, &level, 1, &label, 1, &one, 1, four[0], 16, four[1], 16, four[2], 16, four[3], 16, &a, &c, &is, quad,
                      &b, scores, fix, fallback),
             lcr_tags(g, 4, 2, 2, v, &level, 1, &label, 1, &one, 1, four[0], 16, four[1], 16, four[2], 16, four[3], 16, &a, all),
+            lcr_draw_ring(v, 1, 0, false, g, 4, 2, 2), lcr_read_ring(v, 1, g, 4, 2, 2, marks, n),
         };
         for (size_t k = 0; k < sizeof answers / sizeof *answers; k++)
             if (answers[k] != LCR_VERSION) {

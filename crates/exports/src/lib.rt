@@ -15,6 +15,7 @@ pub mod listings;
 pub mod maps;
 pub mod outlines;
 pub mod pictures;
+pub mod plates;
 pub mod poses;
 pub mod rings;
 pub mod rows;

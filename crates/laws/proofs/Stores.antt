@@ -1,13 +1,15 @@
--- Lists with elements stored one after the other, and reads that need no default. sets-append, map-append, laid-is; stored-none,
--- stored-one, stored-append, stored-ext, stored-length, stored-laid; getD-any; below-next. Assumes nothing.
+-- Lists with elements stored one after the other, and reads that need no default. sets-append, map-append, laid-is; run-off, run-at,
+-- run-more, one value stored in a run of places; stored-none, stored-one, stored-append, stored-ext, stored-length, stored-laid; getD-any;
+-- below-next. Assumes nothing.
 use mathlib.Core.Path.{_≡_, refl, sym, ap, _∙_, subst}
 use mathlib.Core.Logic.{_⊎_, inl, inr}
 use mathlib.Core.List.{List, [], _∷_, _++_, map}
 use Prim.Native.Nat.{ℕ, zero, suc, _+_, _≤_, _<_}
 use native.Mathlib.Nat.{add-zero, zero-add, eq-or-lt-of-le, not-suc-le-zero, le-of-suc-le-suc}
+use native.Mathlib.Decide.{ℕ-discrete}
 use native.Mathlib.Omega.{arith}
-use lib.ListN.{length, getD, set, drop, length-append}
-use lib.Seq.{sets, sets-eq, length-sets}
+use lib.ListN.{length, getD, set, drop, replicate, length-append, length-replicate, length-set, replicate-append-replicate}
+use lib.Seq.{sets, sets-eq, length-sets, getD-set-other, getD-set-same}
 use Rattle.laws.specs.Lent.{Stored}
 
 -- stores that follow each other are one store
@@ -24,6 +26,37 @@ map-append {A} {B} f (a ∷ us) vs = ap (λ (l : List B). f a ∷ l) (map-append
 -- a store from the first place on, with the rest of the list
 pub laid-is : {A : Type 0} (us old : List A) → length us ≤ length old → sets old 0 us ≡ us ++ drop (length us) old
 laid-is us old fit = sets-eq us old 0 (rw (zero-add (length us)) fit) ∙ ap (λ (k : ℕ). us ++ drop k old) (zero-add (length us))
+
+-- ---- one value in a run of places
+pub run-off : (l : List ℕ) (at n b k : ℕ) → (k < at) ⊎ (at + n ≤ k) → getD (sets l at (replicate n b)) k 0 ≡ getD l k 0
+run-off l at zero b k h = refl
+run-off l at (suc n) b k h = run-off (set l at b) (suc at) n b k (on h) ∙ getD-set-other l at k b 0 (other h)
+  where
+    on : (k < at) ⊎ (at + suc n ≤ k) → (k < suc at) ⊎ (suc at + n ≤ k)
+    on (inl l) = inl (omega arith)
+    on (inr l) = inr (omega arith)
+
+    other : (k < at) ⊎ (at + suc n ≤ k) → k ≡ at → ⊥
+    other (inl l) e = omega arith
+    other (inr l) e = omega arith
+
+pub run-at : (l : List ℕ) (at n b k : ℕ) → at + n ≤ length l → at ≤ k → k < at + n → getD (sets l at (replicate n b)) k 0 ≡ b
+run-at l at zero b k room low high = absurd (omega arith)
+run-at l at (suc n) b k room low high = go (ℕ-discrete k at) (run-at (set l at b) (suc at) n b k)
+  where
+    go : Dec (k ≡ at)
+        → (suc at + n ≤ length (set l at b) → suc at ≤ k → k < suc at + n → getD (sets (set l at b) (suc at) (replicate n b)) k 0 ≡ b)
+        → getD (sets (set l at b) (suc at) (replicate n b)) k 0 ≡ b
+    go (yes e) later =
+        run-off (set l at b) (suc at) n b k (inl (omega arith)) ∙ ap (λ (i : ℕ). getD (set l at b) i 0) e
+        ∙ getD-set-same l at b 0 (omega arith)
+    go (no e) later = later (simp length-set (omega arith)) (omega arith) (omega arith)
+
+pub run-more : (l : List ℕ) (at i b : ℕ) → set (sets l at (replicate i b)) (at + i) b ≡ sets l at (replicate (i + 1) b)
+run-more l at i b =
+    ap (λ (k : ℕ). set (sets l at (replicate i b)) (at + k) b) (sym (length-replicate i b))
+    ∙ sets-append l at (replicate i b) (b ∷ [])
+    ∙ ap (λ (r : List ℕ). sets l at r) (replicate-append-replicate i 1 b)
 
 -- ---- from one place to the next
 pub stored-none : {A : Type 0} (at : ℕ) (l : List A) → Stored at [] l l at

@@ -67,7 +67,7 @@ depth-at v k = go (ltb k 3) refl
     go true e = let l : k < 3 = ltb-true k 3 e in omega arith
     go false e = let l : 3 ≤ k = ltb-false k 3 e in omega arith
 
-along-at : (k : ℕ) → alongOf (coordinate k) ≡ k
+pub along-at : (k : ℕ) → alongOf (coordinate k) ≡ k
 along-at k = go (ltb k 3) refl
   where
     go : (b : Bool) → ltb k 3 ≡ b → alongOf (cond b (negsuc (3 - suc k)) (pos (k - 3))) ≡ k

@@ -1,5 +1,6 @@
 -- Laws of the first greatest count.
 --     best-none, best-turn, best-done  one count further, as the loop goes
+--     best-below                       it is among those compared
 --     not-above                        what is at most a float is not above it
 --     best-by-scores                   the Rust's search by scores ends there too
 -- Assumes nothing.
@@ -44,6 +45,15 @@ best-turn counts k b r h e er =
 
 pub best-done : (counts : List ℕ) (k b : ℕ) → k ≡ 8 → b ≡ bestTo counts (k - 1) → b ≡ bestTo counts 7
 best-done counts k b e h = h ∙ ap (λ (x : ℕ). bestTo counts (x - 1)) e
+
+pub best-below : (counts : List ℕ) (k : ℕ) → bestTo counts k ≤ k
+unfolding bestTo
+best-below counts zero = omega arith
+best-below counts (suc k) = go (ltb (getD counts (bestTo counts k) 0) (getD counts (suc k) 0)) (best-below counts k)
+  where
+    go : (t : Bool) → bestTo counts k ≤ k → cond t (suc k) (bestTo counts k) ≤ suc k
+    go true h = omega arith
+    go false h = omega arith
 
 -- ---- by scores
 
@@ -114,15 +124,6 @@ module _ (v : ℕ) (is : IsVersion v) where
       ∙ round-same binary32 false 0 (positionsOf v) 0 1 (omega arith) (omega arith) (omega arith)
 
   module _ (counts : List ℕ) (most : (k : ℕ) → k < 8 → getD counts k 0 ≤ positionsOf v) where
-    best-below : (k : ℕ) → bestTo counts k ≤ k
-    unfolding bestTo
-    best-below zero = omega arith
-    best-below (suc k) = go (ltb (getD counts (bestTo counts k) 0) (getD counts (suc k) 0)) (best-below k)
-      where
-        go : (t : Bool) → bestTo counts k ≤ k → cond t (suc k) (bestTo counts k) ≤ suc k
-        go true h = omega arith
-        go false h = omega arith
-
     -- the first count takes over from nothing, or is nothing itself
     one-score : byScores v counts 1 ≡ scored (score v (getD counts 0 0)) 0
     unfolding byScores
@@ -152,7 +153,7 @@ module _ (v : ℕ) (is : IsVersion v) where
             ∙ ap (λ (t : Bool). cond t (scored (score v (getD counts (suc k) 0)) (suc k))
             (scored (score v (getD counts (bestTo counts k) 0)) (bestTo counts k)))
             (score-compare (getD counts (bestTo counts k) 0) (getD counts (suc k) 0)
-            (most (bestTo counts k) (let b = best-below k in omega arith)) (most (suc k) h))
+            (most (bestTo counts k) (let b = best-below counts k in omega arith)) (most (suc k) h))
             ∙ pick (ltb (getD counts (bestTo counts k) 0) (getD counts (suc k) 0))
           where
             pick : (t : Bool)

@@ -1,7 +1,9 @@
 pub mod Answers
 pub mod Bests
+pub mod Greatest
 pub mod MarkLists
 pub mod MarkMoves
+pub mod PoseMoves
 pub mod Poses
 pub mod PosesMoved
 pub mod Rises

@@ -1,6 +1,7 @@
 -- Within one version more agreement is a greater score: between a / n and b / n, a < b ≤ n ≤ 2,048, lie two multiples of 1 / 4,096, which
 -- f32 has exactly, and rounding keeps the order.
 --     score-is    a score is the fraction, rounded once
+--     score-full  as many as all is 1
 --     score-rises count to score is strictly rising
 -- Assumes nothing.
 use mathlib.Core.Path.{_≡_, refl, sym, ap, _∙_, subst}
@@ -27,7 +28,7 @@ use lib.Pow.{pow-pos}
 use lib.Dec.{T, ltb, eqb, lit<, lit≤}
 use borrow.Author.Tests.{lt-ltb, ne-eqb, ltb-true, ltb-false}
 use lib.IntN.{pos}
-use lib.Ieee.{Float, nan, inf, fin, Format, binary32, round, div, ofInt, lt, le, up, down, prec, low, emax}
+use lib.Ieee.{Float, nan, inf, fin, Format, binary32, round, div, ofInt, ofBits, lt, le, up, down, prec, low, emax}
 use lib.Ieee.Exact.{HasValue, round-exact}
 use lib.Ieee.Order.{round-mono}
 use lib.Ieee.Scale.{round-same}
@@ -76,6 +77,13 @@ unfolding score
 score-is v c hv hc =
     div-is (ofInt binary32 (pos c)) (ofInt binary32 (pos (positionsOf v))) c (positionsOf v) (omega arith) (whole c hc)
     (whole (positionsOf v) (omega arith))
+
+-- as many as all is 1
+pub score-full : (v : ℕ) → IsVersion v → score v (positionsOf v) ≡ ofBits binary32 1065353216
+unfolding round ofBits
+score-full v is =
+    score-is v (positionsOf v) (is .greatest) (omega arith)
+    ∙ round-same binary32 false (positionsOf v) (positionsOf v) 1 1 (omega arith) (omega arith) (omega arith)
 
 -- ---- strictly rising
 

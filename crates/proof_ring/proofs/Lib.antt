@@ -1,0 +1,14 @@
+pub mod Answers
+pub mod Back
+pub mod Below
+pub mod Boxes
+pub mod Centres
+pub mod Controls
+pub mod Painting
+pub mod Places
+pub mod Rows
+pub mod Sequences
+pub mod Squares
+pub mod Table
+pub mod Turning
+pub mod Words
