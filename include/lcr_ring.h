@@ -31,7 +31,7 @@
  * STATE. Nothing is allocated and nothing is kept between calls, so that calls on different memory may run at the
  * same time in any threads. Floats are IEEE 754 in round to nearest, which the calling thread must have set, with
  * subnormals on. A NaN has no fixed bits. Working memory that is not lent is on the stack: random calls use up to
- * 46 KB of it (oracle/outside/guards measures), and a median of 4,096 values may go as many levels of 48 bytes deep.
+ * 71 KB of it (oracle/outside/guards measures), and a median of 4,096 values may go as many levels of 48 bytes deep.
  * A thread that calls should have 256 KB free.
  */
 #ifndef LCR_RING_H
@@ -66,6 +66,7 @@ enum {
     LCR_PLATE = 16,      /* a pitch outside 1..16, a corner outside 0..3, or a picture side below (version side + 10) x pitch */
     LCR_RUN = 17,        /* a shortest run outside 2..8 */
     LCR_BOXES = 18,      /* box numbers not whole fours, or a box with x0 > x1, y0 > y1, x1 > width or y1 > height */
+    LCR_DOUBLED = 21,    /* a coordinate that is no whole number from 0 to 8,192, doubled */
     LCR_ROW = 22,        /* a row of more than 60 pixels, or a place that is not below their number */
     LCR_NONE = 255       /* accepted, and there is nothing to answer */
 };
@@ -161,6 +162,42 @@ uint32_t lcr_convex_hull(const float *points, size_t points_len, float *out, siz
  * LCR_NONE where there are fewer than four vertices or a side has none. Takes time in proportion to the square of
  * the vertices. No refusal. */
 uint32_t lcr_quad(const float *vertices, size_t vertices_len, float quad[8]);
+
+/* ---- Outlines in whole numbers --------------------------------------------------------------------------- */
+
+/* Points of pictures of up to 4,096 pixels a side in whole numbers: their coordinates doubled, so that centres and edges of
+ * pixels are whole, 0 to 8,192. Hull and quad are exact there, where products of half pixels in floats are rounded. The way
+ * from a picture: lcr_picture, lcr_outline, lcr_doubled, lcr_whole_hull, lcr_whole_quad. For coordinates up to 2,048, which
+ * are pictures of up to 1,024 a side, vertices and corners are those of lcr_convex_hull and lcr_quad, doubled. */
+
+/* Points as lcr_outline lists them, doubled.
+ *
+ *   points     points_len numbers, x and y by turns: at most 16,384 points, each number half of a whole number from 0 to 8,192;
+ *              -0 is 0
+ *   out        out, at least points_len numbers: twice each number, as a whole number
+ *
+ * Refusals in order: LCR_POINTS, LCR_LENT, LCR_DOUBLED. */
+uint32_t lcr_doubled(const float *points, size_t points_len, uint32_t *out, size_t out_len);
+
+/* The convex hull of points in doubled coordinates, clockwise (x right, y down) from the one with least x, then least y.
+ *
+ *   points     points_len numbers, x and y by turns: at most 16,384 points, 0 to 8,192
+ *   out        out, at least points_len numbers: the vertices, x and y by turns
+ *   vertices   out: how many, 0 to points_len / 2
+ *
+ * All points lie on or inside the hull, its vertices are points, and none of them lies on or inside the hull of the others.
+ * Takes time in proportion to the points, and to the columns between the outermost of them. Refusals in order: LCR_POINTS,
+ * LCR_LENT, LCR_DOUBLED. */
+uint32_t lcr_whole_hull(const uint32_t *points, size_t points_len, uint32_t *out, size_t out_len, size_t *vertices);
+
+/* The quad of a hull in doubled coordinates: the farthest pair of vertices and the farthest vertex on either side of it.
+ *
+ *   vertices   vertices_len numbers, x and y by turns, as lcr_whole_hull lists them; of any other list too
+ *   quad       out: x and y of four corners, clockwise
+ *
+ * LCR_NONE where there are fewer than four vertices or a side has none. Takes time in proportion to the square of
+ * the vertices. Refusals in order: LCR_POINTS, LCR_DOUBLED. */
+uint32_t lcr_whole_quad(const uint32_t *vertices, size_t vertices_len, uint32_t quad[8]);
 
 /* ---- The ring ------------------------------------------------------------------------------------------- */
 

@@ -1,5 +1,5 @@
 //! A safe wrapper of the ring finder: `find` and `tags` from a picture to its rings; the doors `map`, `outline` and `attempt`
-//! step by step; the ink of boxes, `darkness`; PGM files, `pgm_read` and `pgm_write`; proof rings, `draw_ring` and `read_ring`; and
+//! step by step; hull and quad of an outline in whole numbers, `whole_outline`; the ink of boxes, `darkness`; PGM files, `pgm_read` and `pgm_write`; proof rings, `draw_ring` and `read_ring`; and
 //! how often noise makes an outline, `rows_without` and `rows_with`.
 //!
 //! Link with libexports.a (`rt staticlib exports`). include/lcr_ring.h says what each function takes and gives.
@@ -24,6 +24,7 @@ impl std::fmt::Display for Refusal {
             16 => "a pitch outside 1 to 16, a corner outside 0 to 3, or a picture too small for the ring",
             17 => "a shortest run outside 2 to 8",
             18 => "a box with its sides exchanged, or past the picture's edge",
+            21 => "a coordinate that is no half of a whole number from 0 to 8,192",
             22 => "more than 60 pixels, or a place not below their number",
             _ => "refused",
         };
@@ -101,6 +102,9 @@ unsafe extern "C" {
         table: *mut u32, t: usize, counts: *mut u32, c: usize) -> u32;
     fn lcr_outline(gray: *const u8, n: usize, levels: *const u8, l: usize, labels: *const u32, m: usize, want: u32, width: usize,
         height: usize, x0: usize, y0: usize, x1: usize, y1: usize, out: *mut f32, o: usize, points: *mut usize) -> u32;
+    fn lcr_doubled(points: *const f32, n: usize, out: *mut u32, m: usize) -> u32;
+    fn lcr_whole_hull(points: *const u32, n: usize, out: *mut u32, m: usize, vertices: *mut usize) -> u32;
+    fn lcr_whole_quad(vertices: *const u32, n: usize, quad: *mut u32) -> u32;
     fn lcr_attempt(gray: *const u8, n: usize, width: usize, height: usize, points: *const f32, m: usize, most: u32,
         straight: *mut f32, a: usize, cand: *mut f32, b: usize, buf: *mut f32, c: usize, hull: *mut usize, found: *mut bool,
         quad: *mut f32, tried: *mut usize, scores: *mut f32, fix: *mut f64, fallback: *mut f64) -> u32;
@@ -192,6 +196,27 @@ pub fn outline(gray: &[u8], width: usize, height: usize, map: &Map, r: &Region) 
         )
     })?;
     Ok(out.chunks_exact(2).take(points).map(|p| (p[0], p[1])).collect())
+}
+
+/// Hull and quad of points as `outline` lists them, in whole numbers: coordinates doubled, exact up to 4,096 pixels a side.
+pub struct WholeOutline {
+    pub hull: Vec<(u32, u32)>,
+    pub quad: Option<[(u32, u32); 4]>,
+}
+
+/// The hull of an outline and its quad, clockwise, in doubled coordinates.
+pub fn whole_outline(points: &[(f32, f32)]) -> Result<WholeOutline, Refusal> {
+    let list: Vec<f32> = points.iter().flat_map(|p| [p.0, p.1]).collect();
+    let (mut doubled, mut out, mut vertices) = (vec![0u32; list.len()], vec![0u32; list.len()], 0);
+    let mut quad = [0u32; 8];
+    // SAFETY: as above.
+    let no = unsafe {
+        told(lcr_doubled(list.as_ptr(), list.len(), doubled.as_mut_ptr(), doubled.len()))?;
+        told(lcr_whole_hull(doubled.as_ptr(), doubled.len(), out.as_mut_ptr(), out.len(), &mut vertices))?;
+        lcr_whole_quad(out.as_ptr(), 2 * vertices, quad.as_mut_ptr())
+    };
+    let quad = if no == 255 { None } else { told(no).map(|_| Some(std::array::from_fn(|i| (quad[2 * i], quad[2 * i + 1]))))? };
+    Ok(WholeOutline { hull: out.chunks_exact(2).take(vertices).map(|p| (p[0], p[1])).collect(), quad })
 }
 
 fn ring(f: &[f64; 15]) -> Option<Ring> {

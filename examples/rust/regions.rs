@@ -110,3 +110,18 @@ fn drawn_found() {
     assert_eq!(draw_ring(0, 17, 4, false, 0, 1), Err(Refusal(8)));
     assert_eq!(read_ring(65, 4, &[], 0, 0), Err(Refusal(8)));
 }
+
+/// Hull and quad in whole numbers: four points of which one is lost by floats, a line, and what is refused.
+#[test]
+fn whole_numbers() {
+    use lcr_ring::{Refusal, whole_outline};
+    let four = whole_outline(&[(4096.0, 0.0), (0.0, 0.0), (3588.5, 3994.0), (500.0, 556.5)]).unwrap();
+    assert_eq!(four.hull, [(0, 0), (8192, 0), (7177, 7988), (1000, 1113)]);
+    assert_eq!(four.quad, Some([(0, 0), (8192, 0), (7177, 7988), (1000, 1113)]));
+    let square = whole_outline(&[(0.0, 0.0), (4.0, 0.0), (4.0, 4.0), (0.0, 4.0), (2.0, 0.0)]).unwrap();
+    assert_eq!(square.quad, Some([(0, 0), (8, 0), (8, 8), (0, 8)]));
+    let line = whole_outline(&[(0.0, 0.0), (1.0, 0.0), (2.0, 0.0)]).unwrap();
+    assert_eq!((line.hull, line.quad), (vec![(0, 0), (4, 0)], None));
+    assert_eq!(whole_outline(&[(0.25, 0.0)]).err(), Some(Refusal(21)));
+    assert_eq!(whole_outline(&vec![(0.25, 0.0); 16385]).err(), Some(Refusal(6)));
+}

@@ -38,6 +38,16 @@ fn ours(kind: u32, args: &[u32]) -> Vec<u32> {
 /// How many calls of each entry were made, stored and random.
 type Counts = BTreeMap<(&'static str, u32), [u64; 2]>;
 
+/// The points of an outline or of a hull's call, where the Rust is exact on them, through hull and quad in whole numbers too.
+fn in_wholes(c: &Call, from: usize, counts: &mut Counts) -> Result<(), (Call, String)> {
+    let Some(w) = functions::in_wholes(c) else { return Ok(()) };
+    if ours(w.kind, &w.args) != w.want {
+        return Err((w, "the points of another call".to_string()));
+    }
+    counts.entry((functions::AREA.name, w.kind)).or_default()[from] += 1;
+    Ok(())
+}
+
 /// An area's stored calls, then random ones until `end`; the first that differs, and where it is from.
 fn hold(area: &'static Area, seed: u64, end: Instant, most: u64, counts: &mut Counts) -> Result<(), (Call, String)> {
     for (i, c) in (area.stored)().into_iter().enumerate() {
@@ -45,6 +55,7 @@ fn hold(area: &'static Area, seed: u64, end: Instant, most: u64, counts: &mut Co
             return Err((c, format!("stored call {i}")));
         }
         counts.entry((area.name, c.kind)).or_default()[0] += 1;
+        in_wholes(&c, 0, counts)?;
     }
     let mut i = 0;
     while i < most && (i < 16 || Instant::now() < end) {
@@ -53,6 +64,7 @@ fn hold(area: &'static Area, seed: u64, end: Instant, most: u64, counts: &mut Co
             return Err((c, format!("seed {seed}, call {i}")));
         }
         counts.entry((area.name, c.kind)).or_default()[1] += 1;
+        in_wholes(&c, 1, counts)?;
         i += 1;
     }
     Ok(())

@@ -12,6 +12,9 @@ unsafe extern "C" {
         x0: usize, y0: usize, x1: usize, y1: usize, out: *mut f32, m: usize, points: *mut usize) -> u32;
     fn lcr_convex_hull(p: *const f32, n: usize, out: *mut f32, m: usize, vertices: *mut usize) -> u32;
     fn lcr_quad(p: *const f32, n: usize, quad: *mut f32) -> u32;
+    fn lcr_doubled(p: *const f32, n: usize, out: *mut u32, m: usize) -> u32;
+    fn lcr_whole_hull(p: *const u32, n: usize, out: *mut u32, m: usize, vertices: *mut usize) -> u32;
+    fn lcr_whole_quad(p: *const u32, n: usize, quad: *mut u32) -> u32;
     fn lcr_attempt(gray: *const u8, n: usize, w: usize, h: usize, points: *const f32, m: usize, most: u32,
         straight: *mut f32, a: usize, cand: *mut f32, b: usize, buf: *mut f32, c: usize, hull: *mut usize, found: *mut bool,
         quad: *mut f32, tried: *mut usize, scores: *mut f32, fix: *mut f64, fallback: *mut f64) -> u32;
@@ -100,6 +103,22 @@ pub fn hull(p: &[f32], out: &mut [f32]) -> Result<usize, u32> {
 pub fn quad(p: &[f32]) -> Option<[f32; 8]> {
     let mut q = [0f32; 8];
     (unsafe { lcr_quad(p.as_ptr(), p.len(), q.as_mut_ptr()) } == 0).then_some(q)
+}
+
+/// Hull and quad in whole numbers: how many vertices, these, whether there is a quad, its corners; or a refusal.
+pub fn whole(p: &[f32]) -> Vec<u32> {
+    let (mut doubled, mut out, mut n, mut q) = (vec![0; p.len()], vec![0; p.len()], 0, [0u32; 8]);
+    let mut no = unsafe { lcr_doubled(p.as_ptr(), p.len(), doubled.as_mut_ptr(), doubled.len()) };
+    if no == 0 {
+        no = unsafe { lcr_whole_hull(doubled.as_ptr(), doubled.len(), out.as_mut_ptr(), out.len(), &mut n) };
+    }
+    if no != 0 {
+        return vec![no];
+    }
+    out.truncate(2 * n);
+    let found = unsafe { lcr_whole_quad(out.as_ptr(), out.len(), q.as_mut_ptr()) } == 0;
+    let corners = if found { &q[..] } else { &[] };
+    [&[n as u32], &out[..], &[found as u32], corners].concat()
 }
 
 /// The lists that the ring door is lent, and its answer.

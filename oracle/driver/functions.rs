@@ -58,10 +58,24 @@ pub fn direct(kind: u32, args: &[u32]) -> Vec<u32> {
             let p = crate::calls::singles(args);
             finder::quad(&p).map_or(vec![0, 0], |q| [0, 1].into_iter().chain(q.map(w32)).collect())
         }
+        10607 => finder::whole(&crate::calls::singles(args)),
         10910 => ring_words(args),
         10920 | 10921 => finder_find::direct(kind, args),
         _ => finder_leaves::direct(kind, args),
     }
+}
+
+/// The points that an accepted call of the outline door lists, or that a call of the hull is handed, as a call of hull and quad in
+/// whole numbers: where they are halves from 0 to 1,024, on which the Rust is exact.
+pub fn in_wholes(c: &Call) -> Option<Call> {
+    let words = match (c.kind % 10000, &c.want[..]) {
+        (600, [0, n, list @ ..]) => &list[..2 * *n as usize],
+        (602, [0, ..]) => &c.args[1..],
+        _ => return None,
+    };
+    let exact = |v: &f32| (0.0..=1024.0).contains(v) && (v * 2.0).fract() == 0.0 && v.is_sign_positive();
+    let p = crate::calls::singles(words);
+    (p.len() % 2 == 0 && p.len() <= 32768 && p.iter().all(exact)).then(|| AREA.call(10607, words.to_vec()))
 }
 
 fn picture_words(args: &[u32]) -> Vec<u32> {
@@ -191,7 +205,7 @@ fn random(r: &mut Rng) -> Call {
     if r.chance(0.8) {
         return leaf(r);
     }
-    match r.below(11) {
+    match r.below(12) {
         0..=2 => {
             let mut args = picture::fits(&wide(r), r.below(5) as usize);
             if r.chance(0.05) {
@@ -210,7 +224,12 @@ fn random(r: &mut Rng) -> Call {
         6 => AREA.call(10603, long_list(r).into_iter().take(2000).map(w32).collect()),
         7 if r.chance(0.5) => AREA.call(10605, pgm::to_read(&pgm::file(&wide(r), 0, r))),
         7 => AREA.call(10606, pgm::to_write(&wide(r), r.range(-1, 9))),
-        8 | 9 => {
+        8 => {
+            let most = if r.chance(0.9) { 300 } else { 1024 };
+            let p = wild(r.range(1, most) as u32, r.range(1, most) as u32, r);
+            AREA.call(10607, points_of(&p, r.chance(0.5)).iter().flat_map(|p| [p.0, p.1]).map(w32).collect())
+        }
+        9 | 10 => {
             let (kind, args) = find::some(r);
             AREA.call(kind + 10000, args)
         }

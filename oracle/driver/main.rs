@@ -2,6 +2,7 @@
 #![cfg_attr(not(ours), allow(dead_code))]
 mod att;
 mod attempts;
+mod bench_pictures;
 mod border;
 mod calc;
 mod calls;
@@ -54,7 +55,7 @@ mod timed;
 use std::io::{Read, Write};
 
 const USAGE: &str = "usage: oracle WORD ..: without the finder traylist, sample, dump, attempt, attempt-verbose, attempt-case SEED I, ways SEED N, \
-picks, calc, fuzz SEED N, vectors AREA, program PATH SEED N; with it compare AREA|all SEED SECONDS [MOST], compare-selftest, replay FILE, poses, \
+picks, calc, fuzz SEED N, vectors AREA, program PATH SEED N, bench-pictures DIR [SEED]; with it compare AREA|all SEED SECONDS [MOST], compare-selftest, replay FILE, poses, \
 found PICTURES SEED [FIRST], bench [SEED], bench-darkness [SEED], bench-leaves, largest";
 
 const AREAS: &[&calls::Area] = &[
@@ -128,6 +129,7 @@ fn main() {
         "picks" => ways::picks(),
         "calc" => calc::run(),
         "fuzz" => fuzz::run(a.num(2, 1), a.num(3, 10000)),
+        "bench-pictures" if !a.word(2).is_empty() => bench_pictures::write(a.word(2), a.num(3, 1)),
         "vectors" if AREAS.iter().any(|x| x.name == a.word(2)) => AREAS.iter().filter(|x| x.name == a.word(2)).for_each(|x| calls::vectors(x)),
         _ if with_finder(&a) => {}
         _ => {

@@ -117,6 +117,7 @@ fn answer(kind: u32, args: &[u32]) -> Option<Vec<u32>> {
             let [m] = w.heads()?;
             Some(hull_words(&w.rest(), m as usize))
         }
+        607 => Some(whole_words(&Words(args).rest())),
         _ => Some(quad_words(&Words(args).rest())),
     }
 }
@@ -134,6 +135,15 @@ fn hull(p: &[(f32, f32)]) -> Vec<(f32, f32)> {
 /// Every NaN as the positive one, which `total_cmp` puts last.
 fn num(v: f32) -> f32 {
     if v.is_nan() { f32::from_bits(0x7fc0_0000) } else { v }
+}
+
+/// Hull and quad of points of pictures up to 1,024 a side, doubled: how many vertices, these, whether there is a quad, its corners.
+fn whole_words(p: &[f32]) -> Vec<u32> {
+    let vertices = hull(&pairs(p));
+    let quad = ring::quad(&vertices);
+    let twice = |q: &(f32, f32)| [(q.0 * 2.0) as u32, (q.1 * 2.0) as u32];
+    let corners = quad.iter().flatten().flat_map(twice);
+    [vertices.len() as u32].into_iter().chain(vertices.iter().flat_map(twice)).chain([quad.is_some() as u32]).chain(corners).collect()
 }
 
 fn hull_words(p: &[f32], m: usize) -> Vec<u32> {

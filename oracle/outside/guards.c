@@ -6,9 +6,10 @@
  * begins, and once begins where one ends. A touch outside ends the program; so does the first of these that
  * fails, with 1 and the call's seed:
  *   the result and what every list holds afterwards are equal in both (a NaN equals a NaN);
- *   the result is the refusal that document 01's table, for PGM files, rows and proof rings its change request, has for these sizes,
- *   numbers and bytes, or none where there is none; what is read of a PGM file, and written, is what was made; a drawn proof ring
- *   has bytes 0 and 255 only, and marks that are read are those of the bytes at the cells' centres;
+ *   the result is the refusal that document 01's table, for PGM files, rows, proof rings and whole numbers its change request, has for
+ *   these sizes, numbers and bytes, or none where there is none; what is read of a PGM file, and written, is what was made; a drawn proof
+ *   ring has bytes 0 and 255 only, and marks that are read are those of the bytes at the cells' centres; doubled numbers are twice the
+ *   given ones, and vertices and corners in whole numbers are among the points;
  *   lists that are only read are as before, on a refusal or LCR_NONE all lists are;
  *   in an accepted call the places past those needed are as before.
  *
@@ -296,6 +297,77 @@ static uint32_t make_quad(void) {
     return ANY;
 }
 static uint32_t call_quad(void) { return lcr_quad(at(0), len(0), at(1)); }
+
+/* Whole points, or their halves: now and then a number too many, more than 16,384 points, or a number out of range. */
+enum { MOST_WHOLE = 8192, BEYOND = 21 };
+static size_t points_len(int long_ones) {
+    size_t n = 2 * (odds(4) ? below(150) : below(15)) + (odds(12) ? 1 : 0);
+    return odds(300) ? 32769 - (size_t)long_ones * 3 + below(6) : n;
+}
+static uint32_t whole_check(size_t n, size_t room) {
+    if (n % 2 || n > 32768) return LCR_POINTS;
+    return room < n ? LCR_LENT : LCR_OK;
+}
+static uint32_t make_doubled(void) {
+    size_t n = points_len(1), side = odds(2) ? 10 : MOST_WHOLE;
+    uint32_t no = LCR_OK;
+    float *p = add(n, 4, 0, 4);
+    for (size_t i = 0; i < n; i++) p[i] = (float)below(side + 1) / 2;
+    if (n && odds(4)) p[below(n)] = odds(2) ? number((int)below(4)) : odds(2) ? -0.0f : 4095.75f + (float)below(4) / 4;
+    add(near(n), 4, 1, 0);
+    list[1].need = n;
+    for (size_t i = 0; i < n; i++)
+        if (!(p[i] >= 0 && p[i] <= MOST_WHOLE / 2 && floorf(p[i] * 2) == p[i] * 2)) no = BEYOND;
+    return whole_check(n, len(1)) ? whole_check(n, len(1)) : no;
+}
+static uint32_t call_doubled(void) {
+    const float *p = at(0);
+    const uint32_t *out = at(1);
+    uint32_t r = lcr_doubled(at(0), len(0), at(1), len(1));
+    for (size_t i = 0; r == LCR_OK && i < len(0); i++)
+        if ((float)out[i] != 2 * p[i]) fail("another number than the double", 1);
+    return r;
+}
+/* A list of whole points, and the refusal that a number out of range has. */
+static uint32_t wholes(size_t n) {
+    size_t side = odds(3) ? 3 : odds(2) ? 60 : MOST_WHOLE, from = below(MOST_WHOLE - side + 1);
+    uint32_t *p = add(n, 4, 0, 0);
+    for (size_t i = 0; i < n; i++) p[i] = (uint32_t)(from + below(side + 1));
+    if (n && odds(4)) p[below(n)] = odds(3) ? MOST_WHOLE : odds(2) ? MOST_WHOLE + 1 : (uint32_t)next();
+    for (size_t i = 0; i < n; i++)
+        if (p[i] > MOST_WHOLE) return BEYOND;
+    return LCR_OK;
+}
+static void among_points(const uint32_t *q, size_t n, int k) {
+    const uint32_t *p = at(0);
+    for (size_t i = 0, j; i < n; i++) {
+        for (j = 0; j < len(0) && (p[j] != q[2 * i] || p[j + 1] != q[2 * i + 1]); j += 2) {}
+        if (j >= len(0)) fail("a vertex or corner that is no point", k);
+    }
+}
+static uint32_t make_whole_hull(void) {
+    size_t n = points_len(1);
+    uint32_t no = wholes(n);
+    add(near(n), 4, 1, 0), add(1, sizeof(size_t), 1, 0);
+    return whole_check(n, len(1)) ? whole_check(n, len(1)) : no;
+}
+static uint32_t call_whole_hull(void) {
+    size_t *vertices = at(2);
+    uint32_t r = lcr_whole_hull(at(0), len(0), at(1), len(1), vertices);
+    if (r == LCR_OK) list[1].need = 2 * *vertices, among_points(at(1), *vertices, 1);
+    return r;
+}
+static uint32_t make_whole_quad(void) {
+    size_t n = points_len(0);
+    uint32_t no = wholes(n);
+    add(8, 4, 1, 0);
+    return whole_check(n, n) ? whole_check(n, n) : no ? no : ANY;
+}
+static uint32_t call_whole_quad(void) {
+    uint32_t r = lcr_whole_quad(at(0), len(0), at(1));
+    if (r == LCR_OK) among_points(at(1), 4, 1);
+    return r;
+}
 
 /* The boundary points of list 0's first region, as points of an attempt; else random ones. */
 static size_t outlined(float *to, size_t most) {
@@ -681,6 +753,8 @@ static const struct {
     {"lcr_tags", make_tags, call_tags}, {"lcr_rows_without", make_row, call_without},
     {"lcr_rows_with", make_places, call_with}, {"lcr_darkness", make_darkness, call_darkness},
     {"lcr_draw_ring", make_draw, call_draw}, {"lcr_read_ring", make_read_ring, call_read_ring},
+    {"lcr_doubled", make_doubled, call_doubled}, {"lcr_whole_hull", make_whole_hull, call_whole_hull},
+    {"lcr_whole_quad", make_whole_quad, call_whole_quad},
 };
 
 /* ---- one call, at both places */

@@ -4,11 +4,17 @@
  *   moves check K F0 .. F7    F0 is such a file, F1 to F3 are it turned by one to three quarters, F4 to F7 the
  *                             same of its mirror image: each picture's doors against those of the first
  *   moves marks SEED N        N lists of marks through each shift by quarters, with and without the reversal
+ *   moves plan SEED I         sides of picture I of those over 1,024 a side, and the moves that it is put through: one at random, of
+ *                             every twentieth picture all seven
+ *   moves slanted SEED I      this picture, with long slanted outlines
+ *   moves large F0 M FM ..    F0 is such a picture, FM it moved by M: as check, with the hull and the quad of whole numbers; and
+ *                             how often those of f32 differ from them, and are not moved
  *
  * Compared as document 01 says under "What demand 3 compares". Where two regions of 16 or more cells have equal
  * counts, regions are left out, and it is counted where these come in another order; where a quad's two conditions
  * fail, the quad is left out. Each prints counts.
  */
+#include <stdbool.h>
 #include <stdint.h>
 #include <stdio.h>
 #include <stdlib.h>
@@ -17,22 +23,11 @@
 #include "lcr_ring.h"
 #include "random.h"
 
+#include "pictures.h"
+
 static int below(int n) { return (int)(next() % (uint64_t)(n < 1 ? 1 : n)); }
-static void *room(size_t n) {
-    void *p = calloc(n ? n : 1, 1);
-    if (!p) {
-        perror("moves");
-        exit(2);
-    }
-    return p;
-}
 
 /* ---- pictures */
-typedef struct {
-    int w, h;
-    uint8_t *g;
-} Pic;
-
 static void rect(Pic *p, int x0, int y0, int x1, int y1, int v) {
     for (int y = y0 < 0 ? 0 : y0; y < y1 && y < p->h; y++)
         for (int x = x0 < 0 ? 0 : x0; x < x1 && x < p->w; x++) p->g[y * p->w + x] = (uint8_t)v;
@@ -141,23 +136,6 @@ static void draw(Pic *p) {
     if (below(4) == 0) shake(p, 1 + below(50));
 }
 
-static Pic load(const char *name) {
-    FILE *f = fopen(name, "rb");
-    Pic p;
-    int most;
-    if (!f || fscanf(f, "P5 %d %d %d", &p.w, &p.h, &most) != 3 || most != 255) {
-        fprintf(stderr, "moves: %s is no PGM\n", name);
-        exit(2);
-    }
-    fgetc(f);
-    p.g = room((size_t)p.w * p.h);
-    if (fread(p.g, 1, (size_t)p.w * p.h, f) != (size_t)p.w * p.h) {
-        fprintf(stderr, "moves: %s is cut\n", name);
-        exit(2);
-    }
-    fclose(f);
-    return p;
-}
 /* The i-th of k pictures in a file that was turned by t quarters. */
 static Pic part(const Pic *all, int k, int t, int i) {
     int side = t & 1, w = side ? all->w / k : all->w, h = side ? all->h : all->h / k,
@@ -191,17 +169,59 @@ typedef struct {
     long x, y;
 } Pt;
 typedef struct {
+    Pt *hull, quad[4];
+    int n, is; /* vertices, and whether there is a quad */
+} Outer;
+typedef struct {
     Pic p;
     uint8_t *grid;
     uint32_t *labels, out[26];
-    Pt *pts[4], *hull[4], quad[4][4];
-    int n[4], nh[4], is[4], ties;
+    Pt *pts[4];
+    Outer outer[4], rounded[4]; /* rounded: those of f32 where the others are whole */
+    int n[4], ties;
 } Found;
+static bool large; /* hulls and quads are those of whole numbers */
 
 static Pt *points(const float *f, int n) {
     Pt *p = room((size_t)n * sizeof *p);
     for (int i = 0; i < n; i++) p[i] = (Pt){(long)(2 * f[2 * i]), (long)(2 * f[2 * i + 1])};
     return p;
+}
+static Pt *wholes(const uint32_t *u, int n) {
+    Pt *p = room((size_t)n * sizeof *p);
+    for (int i = 0; i < n; i++) p[i] = (Pt){u[2 * i], u[2 * i + 1]};
+    return p;
+}
+static void take_quad(Outer *o, Pt *four) {
+    memcpy(o->quad, four, sizeof o->quad);
+    free(four);
+}
+/* Hull and quad of k points by the f32 functions. */
+static Outer outer(const float *p, size_t k) {
+    float *hull = room(8 * k), q[8];
+    size_t v;
+    lcr_convex_hull(p, 2 * k, hull, 2 * k, &v);
+    Outer o = {points(hull, (int)v), {{0, 0}}, (int)v, lcr_quad(hull, 2 * v, q) == LCR_OK};
+    if (o.is) take_quad(&o, points(q, 4));
+    free(hull);
+    return o;
+}
+/* The same in whole numbers. */
+static Outer whole_outer(const float *p, size_t k) {
+    uint32_t *u = room(8 * k), *hull = room(8 * k), q[8], no, none = LCR_NONE;
+    size_t v = 0;
+    no = lcr_doubled(p, 2 * k, u, 2 * k);
+    if (!no) no = lcr_whole_hull(u, 2 * k, hull, 2 * k, &v);
+    if (!no) none = lcr_whole_quad(hull, 2 * v, q);
+    if (no || (none && none != LCR_NONE)) {
+        fprintf(stderr, "moves: an outline refused in whole numbers\n");
+        exit(2);
+    }
+    Outer o = {wholes(hull, (int)v), {{0, 0}}, (int)v, none == LCR_OK};
+    if (o.is) take_quad(&o, wholes(q, 4));
+    free(u);
+    free(hull);
+    return o;
 }
 static Found doors(Pic p) {
     Found f;
@@ -218,30 +238,22 @@ static Found doors(Pic p) {
     for (size_t i = 0; i < c; i++)
         if (f.labels[i]) size[f.labels[i]]++;
     for (uint32_t a = 1; a <= f.out[0]; a++)
-        for (uint32_t b = 1; b < a; b++)
-            if (size[a] >= 16 && size[a] == size[b]) f.ties = 1;
+        for (uint32_t b = 1; size[a] >= 16 && b < a; b++)
+            if (size[a] == size[b]) f.ties = 1;
     for (uint32_t i = 0; i < f.out[1]; i++) {
         uint32_t *r = f.out + 2 + 6 * i;
         size_t m = 4 * (r[4] - r[2] + r[5] - r[3]);
-        float *out = room(4 * m), *hull = room(4 * m + 8), q[8];
-        size_t k, v;
+        float *out = room(4 * m);
+        size_t k;
         if (lcr_outline(p.g, n, f.grid, g, f.labels, c, r[0], p.w, p.h, r[2], r[3], r[4], r[5], out, m, &k)) {
             fprintf(stderr, "moves: outline refused\n");
             exit(2);
         }
-        lcr_convex_hull(out, 2 * k, hull, 2 * k, &v);
         f.n[i] = (int)k;
         f.pts[i] = points(out, (int)k);
-        f.nh[i] = (int)v;
-        f.hull[i] = points(hull, (int)v);
-        f.is[i] = lcr_quad(hull, 2 * v, q) == LCR_OK;
-        if (f.is[i]) {
-            Pt *t = points(q, 4);
-            memcpy(f.quad[i], t, sizeof f.quad[i]);
-            free(t);
-        }
+        f.outer[i] = large ? whole_outer(out, k) : outer(out, k);
+        if (large) f.rounded[i] = outer(out, k);
         free(out);
-        free(hull);
     }
     free(stack);
     free(size);
@@ -250,7 +262,8 @@ static Found doors(Pic p) {
 static void drop(Found *f) {
     for (int i = 0; i < 4; i++) {
         free(f->pts[i]);
-        free(f->hull[i]);
+        free(f->outer[i].hull);
+        free(f->rounded[i].hull);
     }
     free(f->grid);
     free(f->labels);
@@ -312,6 +325,23 @@ static int one_quad(const Pt *p, int n) {
     }
     return 1;
 }
+/* b's quad is a's, moved, or neither has one */
+static int quad_of(int m, long w, long h, const Outer *a, const Outer *b) {
+    return a->is == b->is && (!a->is || round_of(m, w, h, a->quad, b->quad, 4));
+}
+/* How often the f32 hull or quad is another than the whole one: regions, and pictures with one. */
+static long seen, seen_regions, hulls_differ, quads_differ, with_hull, with_quad, hulls_unmoved, quads_unmoved;
+static void rounding(const Found *f) {
+    long hulls = 0, others = 0;
+    for (uint32_t i = 0; i < f->out[1]; i++) {
+        const Outer *a = &f->outer[i], *b = &f->rounded[i];
+        hulls += a->n != b->n || !same(a->hull, b->hull, a->n);
+        others += a->is != b->is || (a->is && !same(a->quad, b->quad, 4));
+    }
+    seen++, seen_regions += f->out[1];
+    hulls_differ += hulls, quads_differ += others, with_hull += hulls > 0, with_quad += others > 0;
+}
+
 /* the i-th regions are not each other's, moved: by group, count and box */
 static int other_regions(const Found *a, const Found *b, int m, const uint32_t *to) {
     for (uint32_t i = 0; i < a->out[1]; i++) {
@@ -325,6 +355,20 @@ static int other_regions(const Found *a, const Found *b, int m, const uint32_t *
     }
     return 0;
 }
+/* The ink of the level cell at (x, y) is not that of the moved one; both have the threshold t. */
+static int other_ink(const Found *a, const Found *b, int m, long x, long y, int t) {
+    long w = a->p.w, h = a->p.h, w2 = b->p.w, at[3];
+    for (int k = 0; k < 3; k++) { /* where its first pixel, the next one and the one below go */
+        long u = x + (k == 1), v = y + (k == 2);
+        place(m, w, h, &u, &v);
+        at[k] = v * w2 + u;
+    }
+    int other = 0;
+    for (long j = 0; j < 16; j++)
+        for (long i = 0; i < 16; i++)
+            other |= (a->p.g[(y + j) * w + x + i] < t) != (b->p.g[at[0] + i * (at[1] - at[0]) + j * (at[2] - at[0])] < t);
+    return other;
+}
 static const char *differ(const Found *a, const Found *b, int m) {
     long w = a->p.w, h = a->p.h, w2 = b->p.w;
     for (long y = 0; y < h / 16; y++)
@@ -332,14 +376,7 @@ static const char *differ(const Found *a, const Found *b, int m) {
             long u = x, v = y;
             place(m, w / 16, h / 16, &u, &v);
             if (a->grid[y * (w / 16) + x] != b->grid[v * (w2 / 16) + u]) return "thresholds";
-        }
-    for (long y = 0; y < h; y++)
-        for (long x = 0; x < w; x++) {
-            long u = x, v = y;
-            place(m, w, h, &u, &v);
-            int i = a->p.g[y * w + x] < a->grid[y / 16 * (w / 16) + x / 16],
-                j = b->p.g[v * w2 + u] < b->grid[v / 16 * (w2 / 16) + u / 16];
-            if (i != j) return "ink";
+            if (other_ink(a, b, m, 16 * x, 16 * y, a->grid[y * (w / 16) + x])) return "ink";
         }
     if (a->out[0] != b->out[0]) return "number of groups";
     uint32_t *to = room(4 * ((size_t)a->out[0] + 1)), *from = room(4 * ((size_t)a->out[0] + 1));
@@ -371,7 +408,8 @@ static const char *differ(const Found *a, const Found *b, int m) {
     }
     if (other) return "regions";
     for (uint32_t i = 0; i < a->out[1]; i++) {
-        int n = a->n[i], v = a->nh[i];
+        const Outer *o = &a->outer[i], *t = &b->outer[i];
+        int n = a->n[i], v = o->n;
         if (n != b->n[i]) return "number of points";
         Pt *p = room((size_t)n * sizeof *p), *q = room((size_t)n * sizeof *q);
         for (int k = 0; k < n; k++) {
@@ -382,19 +420,24 @@ static const char *differ(const Found *a, const Found *b, int m) {
         qsort(p, (size_t)n, sizeof *p, by);
         qsort(q, (size_t)n, sizeof *q, by);
         ok = same(p, q, n);
-        if (ok && n && by(q, b->hull[i])) ok = 2;
+        if (ok && n && by(q, t->hull)) ok = 2;
         free(p);
         free(q);
         if (ok != 1) return ok ? "the hull's start" : "points";
-        if (v != b->nh[i] || !round_of(m, 2 * w, 2 * h, a->hull[i], b->hull[i], v)) return "hull";
+        if (v != t->n || !round_of(m, 2 * w, 2 * h, o->hull, t->hull, v)) return "hull";
         for (int k = 0; k < v; k++)
             for (int l = 0; l < k; l++)
-                if (!by(b->hull[i] + k, b->hull[i] + l)) return "a vertex twice";
-        if (one_quad(a->hull[i], v)) {
-            if (a->is[i] != b->is[i] || (a->is[i] && !round_of(m, 2 * w, 2 * h, a->quad[i], b->quad[i], 4)))
-                return "quad";
+                if (!by(t->hull + k, t->hull + l)) return "a vertex twice";
+        int one = one_quad(o->hull, v);
+        if (one) {
+            if (!quad_of(m, 2 * w, 2 * h, o, t)) return "quad";
             quads++;
-            nones += !a->is[i];
+            nones += !o->is;
+        }
+        if (large) {
+            const Outer *c = &a->rounded[i], *d = &b->rounded[i];
+            hulls_unmoved += c->n != d->n || !round_of(m, 2 * w, 2 * h, c->hull, d->hull, c->n);
+            quads_unmoved += one && !quad_of(m, 2 * w, 2 * h, c, d);
         }
         regions++;
         listed += n;
@@ -425,6 +468,39 @@ static int check(int k, char **files) {
            "vertices, %ld quads "
            "(%ld none), 0 different\n",
            pictures, tied, compared, exchanged, regions, listed, vertices, quads, nones);
+    return 0;
+}
+
+/* ---- pictures over 1,024 a side: five of eight up to 2,048, two up to 3,072, one larger, most often 4,096 by 4,096 */
+static int side(int from, int to) { return from + 16 * below((to - from) / 16 + 1); }
+static Pic plan(const char *seed, const char *i) {
+    state = strtoull(seed, 0, 10) * 1000003 + strtoull(i, 0, 10);
+    int size = below(8), most = size < 5 ? 2048 : size < 7 ? 3072 : 4096;
+    int w = side(most - 1008, most), h = side(size < 5 ? 1040 : most / 2, most);
+    if (h < 1040) h = 1040;
+    if (size == 7 && below(3)) w = h = 4096;
+    return below(2) ? (Pic){w, h, 0} : (Pic){h, w, 0};
+}
+static int check_large(int n, char **a) {
+    large = true;
+    Found f = doors(load(a[0]));
+    pictures++;
+    tied += f.ties;
+    rounding(&f);
+    for (int i = 1; i + 1 < n; i += 2) {
+        Found g = doors(load(a[i + 1]));
+        const char *what = differ(&f, &g, atoi(a[i]));
+        if (what) {
+            printf("%s differs: %s, move %s\n", what, a[0], a[i]);
+            return 1;
+        }
+        compared++;
+        rounding(&g);
+        drop(&g);
+    }
+    drop(&f);
+    printf("%ld %ld %ld %ld %ld %ld %ld %ld %ld %ld %ld %ld %ld %ld %ld %ld %ld\n", pictures, tied, compared, exchanged, regions, listed,
+           vertices, quads, nones, seen, seen_regions, with_hull, hulls_differ, with_quad, quads_differ, hulls_unmoved, quads_unmoved);
     return 0;
 }
 
@@ -483,6 +559,21 @@ int main(int n, char **a) {
         state = strtoull(a[2], 0, 10);
         return marks(atol(a[3]));
     }
-    fprintf(stderr, "usage: moves make SEED W H K | check K F0 .. F7 | marks SEED N\n");
+    if (n == 4 && !strcmp(a[1], "plan")) {
+        Pic p = plan(a[2], a[3]);
+        printf("%d %d", p.w, p.h);
+        if (atoi(a[3]) % 20) printf(" %d\n", 1 + below(7));
+        else printf(" 1 2 3 4 5 6 7\n");
+        return 0;
+    }
+    if (n == 4 && !strcmp(a[1], "slanted")) {
+        Pic p = plan(a[2], a[3]);
+        p.g = room((size_t)p.w * p.h);
+        draw_slanted(&p);
+        save(&p);
+        return 0;
+    }
+    if (n >= 5 && n % 2 && !strcmp(a[1], "large")) return check_large(n - 2, a + 2);
+    fprintf(stderr, "usage: moves make SEED W H K | check K F0 .. F7 | marks SEED N | plan SEED I | slanted SEED I | large F0 M FM ..\n");
     return 2;
 }

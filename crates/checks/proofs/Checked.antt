@@ -1,16 +1,17 @@
 -- Checks in order. As a function of what follows them: Gate, with gate-open, no check, and gate-check, one check more, and gate-zero; those of a
 -- picture:
 -- check-on where they pass, check-off where one refuses. check-step: a check that passed, and those after it; side-in: what a side's
--- check tells. Assumes nothing.
+-- check tells; points-in: what the check of a list of points tells. Assumes nothing.
 use mathlib.Core.Bool.{Bool, false, true}
 use mathlib.Core.Path.{_≡_, refl, sym}
-use Prim.Native.Nat.{ℕ, zero, suc, _*_, _≤_, _<_}
+use Prim.Native.Nat.{ℕ, zero, suc, _*_, _/_, _%_, _≤_, _<_}
 use native.Mathlib.Omega.{arith}
 use lib.Dec.{eqb, leb, lit<}
-use borrow.Author.Tests.{leb-true}
+use borrow.Author.Tests.{leb-true, eqb-true}
 use Rattle.laws.proofs.Bools.{and-left, and-right}
 use Rattle.laws.specs.Check.{orRefuse}
 use Rattle.checks.specs.Picture.{isSide, checkPicture}
+use Rattle.checks.specs.Points.{isPoints}
 
 -- ---- checks as a function of what follows them
 -- Where they pass, what follows counts; else it does not matter.
@@ -60,3 +61,12 @@ check-step false n rest l e = absurd (none n l e)
 
 pub side-in : (n : ℕ) → isSide n ≡ true → (1 ≤ n) × (n ≤ 4096)
 side-in n e = (leb-true 1 n (and-left (leb 1 n) (leb n 4096) e), leb-true n 4096 (and-right (leb 1 n) (leb n 4096) e))
+
+pub points-in : (n : ℕ) → isPoints n ≡ true → (n ≡ 2 * (n / 2)) × (n ≤ 32768)
+points-in n e = (
+  even (eqb-true (n % 2) 0 (and-left (eqb (n % 2) 0) (leb n 32768) e)),
+  leb-true n 32768 (and-right (eqb (n % 2) 0) (leb n 32768) e),
+)
+  where
+    even : n % 2 ≡ 0 → n ≡ 2 * (n / 2)
+    even z = omega arith

@@ -1,6 +1,7 @@
-// The checks of a picture that every door that takes one makes first.
+// The checks of a picture, and of a list of points, that every door that takes one makes first.
 ghost use mathlib.Core.Path.{_≡_};
 ghost use Rattle.checks.specs.Picture.{checkPicture, Sides};
+ghost use Rattle.checks.specs.Points.{isPoints};
 
 // The number of the first check of a picture's sides and bytes that fails, else 0.
 pub fn check_picture(w: usize, h: usize, bytes: usize) -> u32
@@ -23,4 +24,14 @@ pub fn check_picture(w: usize, h: usize, bytes: usize) -> u32
         return 2;
     }
     0
+}
+
+// Whether so many numbers are points: two each, and at most 16,384 of them.
+pub fn is_points(n: usize) -> bool
+    ensures { λ r. ⌜ r ≡ isPoints n ⌝ }
+{
+    if n % 2 != 0 {
+        return false;
+    }
+    n <= 32768
 }

@@ -19,3 +19,4 @@ pub mod plates;
 pub mod poses;
 pub mod rings;
 pub mod rows;
+pub mod wholes;

@@ -4,7 +4,7 @@ ghost use mathlib.Core.Path.{_≡_};
 ghost use mathlib.Core.Bool.{cond};
 ghost use lib.Dec.{ltb};
 ghost use lib.ListN.{length};
-ghost use Rattle.hull.specs.Points.{laid};
+ghost use Rattle.laws.specs.Lent.{laid};
 ghost use Rattle.transform.specs.Mapping.{fromQuad, withRadial, applied};
 ghost use Rattle.numbers_out.specs.Maps.{mapOf, elevenOf, mappedResult, mappedAfter, pixelsOf};
 

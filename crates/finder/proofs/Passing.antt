@@ -12,7 +12,7 @@ use borrow.Author.Tests.{leb-true, eqb-true, ne-eqb}
 use Rattle.laws.specs.Check.{orRefuse}
 use Rattle.laws.specs.Plane.{plane}
 use Rattle.laws.specs.Lent.{UntouchedPast}
-use Rattle.laws.proofs.Bools.{and-left, and-right}
+use Rattle.laws.proofs.Bools.{and-left, and-right, told-true, told-false}
 use Rattle.checks.specs.Picture.{isSide}
 use Rattle.checks.proofs.Checked.{check-step, side-in}
 use Rattle.lcr_core.specs.Version.{isVersion}
@@ -24,7 +24,7 @@ use Rattle.regions.specs.declared.answer.Kept.{Kept}
 use Rattle.regions.specs.declared.answer.PictureAnswer.{PictureAnswer}
 use Rattle.picture.proofs.Outcomes.{check-few}
 use Rattle.ring.specs.Checks.{hasRoom}
-use Rattle.ring.proofs.Passing.{room-in, version-in, told-true, told-false}
+use Rattle.ring.proofs.Passing.{room-in, version-in}
 use Rattle.ring.specs.declared.quads.Trace.{Trace}
 use Rattle.ring.specs.declared.door.Outcome.the-variants.{Given}
 use Rattle.region_outline.specs.Region.{needOf}

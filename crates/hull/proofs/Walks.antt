@@ -11,7 +11,8 @@ use lib.Ieee.{Float}
 use Rattle.laws.proofs.Stores.{sets-append, laid-is}
 use Rattle.whole.specs.Wrap.{Tests, sel, lst, nxt, wlk, wrap}
 use Rattle.whole.specs.Hull.{range}
-use Rattle.hull.specs.Points.{xAt, yAt, many, pointsAt, laid}
+use Rattle.laws.specs.Lent.{laid}
+use Rattle.hull.specs.Points.{xAt, yAt, many, pointsAt}
 use Rattle.hull.specs.Hull.{hullTests, hullOf}
 use Rattle.hull.specs.Steps.{startOf}
 

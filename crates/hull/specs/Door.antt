@@ -6,7 +6,8 @@ use lib.ListN.{length}
 use lib.Ieee.{Float}
 use Rattle.laws.specs.Check.{orRefuse}
 use Rattle.laws.specs.Said.{Said, refuse, give}
-use Rattle.hull.specs.Points.{many, laid}
+use Rattle.laws.specs.Lent.{laid}
+use Rattle.hull.specs.Points.{many}
 use Rattle.hull.specs.Hull.{hullOf, hullFloats}
 use Rattle.hull.specs.declared.Hulled.{Hulled}
 use Rattle.hull.specs.declared.Hulled.the-variants.{Vertices, Refused}

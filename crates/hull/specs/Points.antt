@@ -2,9 +2,9 @@
 -- alternating, and points in doubled whole coordinates, so that centres and edges of pixels are whole numbers. Definitions only. Assumes
 -- nothing.
 use mathlib.Core.Bool.{false}
-use mathlib.Core.List.{List, [], _∷_, _++_, map, List·Memᴰ}
+use mathlib.Core.List.{List, [], _∷_, map, List·Memᴰ}
 use Prim.Native.Nat.{ℕ, _+_, _*_, _/_, _≤_}
-use lib.ListN.{length, getD, drop}
+use lib.ListN.{length, getD}
 use lib.IntN.{pos}
 use lib.Ieee.{Float, binary32, round, ofBits}
 use Rattle.whole.specs.Points.{Pt}
@@ -14,7 +14,7 @@ abbrev pub 0f : Float
 0f = ofBits binary32 0
 
 -- How many points a list of numbers has: whole ones only.
-abbrev pub many : List Float → ℕ
+abbrev pub many : {A : Type 0} → List A → ℕ
 many l = length l / 2
 
 -- The coordinates of point i.
@@ -28,10 +28,6 @@ yAt l i = getD l (2 * i + 1) 0f
 unfoldable pub pointsAt : List Float → List ℕ → List Float
 pointsAt l [] = []
 pointsAt l (i ∷ is) = xAt l i ∷ yAt l i ∷ pointsAt l is
-
--- A lent list with the numbers xs in its first places, and the rest untouched.
-abbrev pub laid : List Float → List Float → List Float
-laid xs old = xs ++ drop (length xs) old
 
 -- ---- doubled coordinates
 -- The f32 number n / 2.
@@ -53,6 +49,10 @@ ptOf q = record { x = pos (q .0); y = pos (q .1) }
 abbrev pub ptsOf : List (ℕ × ℕ) → List Pt
 ptsOf l = map ptOf l
 
--- Every coordinate is at most 2,048, doubled: the picture's sides are at most 1,024.
+-- Every coordinate is at most n.
+abbrev pub UpTo : ℕ → List (ℕ × ℕ) → Type 0
+UpTo n L = (q : ℕ × ℕ) → List·Memᴰ q L → (q .0 ≤ n) × (q .1 ≤ n)
+
+-- At most 2,048, doubled: the picture's sides are at most 1,024.
 abbrev pub Small : List (ℕ × ℕ) → Type 0
-Small L = (q : ℕ × ℕ) → List·Memᴰ q L → (q .0 ≤ 2048) × (q .1 ≤ 2048)
+Small L = UpTo 2048 L

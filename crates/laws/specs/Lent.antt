@@ -1,6 +1,6 @@
 -- Words of the doors' contracts, as document 01 has them under "Doors and their checks": what a call leaves in a lent list.
 -- Definitions only. Assumes nothing.
-use mathlib.Core.List.{List}
+use mathlib.Core.List.{List, _++_}
 use mathlib.Core.Path.{_≡_}
 use Prim.Native.Nat.{ℕ, _+_}
 use lib.ListN.{length, drop, replicate}
@@ -10,6 +10,10 @@ use lib.Seq.{sets}
 pub record UntouchedPast {A : Type 0} (n : ℕ) (old new : List A) : Type 0 where
   pub same : length new ≡ length old
   pub past : drop n new ≡ drop n old
+
+-- A lent list with the elements us in its first places, and the rest untouched.
+abbrev pub laid : {A : Type 0} → List A → List A → List A
+laid us old = us ++ drop (length us) old
 
 -- A list with 0 in each of its places.
 abbrev pub zeros : List ℕ → List ℕ

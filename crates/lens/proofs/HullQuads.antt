@@ -13,13 +13,13 @@ use lib.Seq.{take-at}
 use lib.Ieee.{Float}
 use Rattle.whole.specs.Hull.{range}
 use Rattle.whole.specs.Wrap.{Tests, nxt, wlk, wrap, lst}
-use Rattle.hull.specs.Points.{many, pointsAt, laid, xAt, yAt}
+use Rattle.hull.specs.Points.{many, pointsAt, xAt, yAt}
 use Rattle.hull.specs.Hull.{hullTests, hullOf, hullFloats}
 use Rattle.hull.specs.Quad.{valuesOf, quadFloats}
 use Rattle.hull.specs.declared.points.Corners.{Corners}
 use Rattle.hull.specs.declared.points.Corners.the-variants.{Found, NoQuad}
 use Rattle.laws.proofs.Past.{past-front}
-use Rattle.laws.specs.Lent.{UntouchedPast}
+use Rattle.laws.specs.Lent.{UntouchedPast, laid}
 use Rattle.lens.specs.Estimate.{quadFrom, hullQuad}
 
 -- ---- how many vertices

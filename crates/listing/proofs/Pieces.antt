@@ -10,7 +10,7 @@ use lib.ListN.{length, take, drop}
 use lib.Seq.{take-at}
 use lib.Ieee.{Float}
 use Rattle.regions.specs.declared.answer.Region.{Region}
-use Rattle.hull.specs.Points.{many, pointsAt, laid}
+use Rattle.hull.specs.Points.{many, pointsAt}
 use Rattle.hull.specs.Hull.{hullOf, hullFloats}
 use Rattle.hull.specs.Quad.{quadOf, quadFloats, valuesOf}
 use Rattle.hull.specs.declared.points.Quad.{Quad}
@@ -18,7 +18,7 @@ use Rattle.hull.specs.declared.points.Corners.{Corners}
 use Rattle.hull.specs.declared.points.Corners.the-variants.{Found, NoQuad}
 use Rattle.text.specs.Text.{spaced, lineOf, quadWord, noneWord}
 use Rattle.listing.specs.Listing.{outlineWord}
-use Rattle.laws.specs.Lent.{Stored}
+use Rattle.laws.specs.Lent.{Stored, laid}
 use Rattle.listing.specs.Put.{Short, Near, doubledOf, cornersLine, linesBy}
 use Rattle.listing.specs.Inner.{TrayRegion}
 use Rattle.laws.proofs.Stores.{stored-append, stored-ext, stored-length}

@@ -8,9 +8,9 @@ use Prim.Native.Nat.{ℕ, zero, suc, _+_, _*_, _≤_, _<_}
 use native.Mathlib.Omega.{arith}
 use lib.ListN.{length, set}
 use lib.Ieee.{Float}
-use Rattle.laws.specs.Lent.{Stored}
+use Rattle.laws.specs.Lent.{Stored, laid}
 use Rattle.laws.proofs.Stores.{stored-laid}
-use Rattle.hull.specs.Points.{many, laid}
+use Rattle.hull.specs.Points.{many}
 use Rattle.transform.specs.declared.Transform.{Transform}
 use Rattle.numbers_out.specs.Maps.{pixelsOf}
 

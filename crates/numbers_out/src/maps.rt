@@ -3,8 +3,8 @@
 ghost use Prim.Native.Nat.{_*_, _+_, _<_, _≤_};
 ghost use lib.ListN.{length};
 ghost use mathlib.Core.Path.{_≡_};
-ghost use Rattle.laws.specs.Lent.{Stored};
-ghost use Rattle.hull.specs.Points.{many, laid};
+ghost use Rattle.laws.specs.Lent.{Stored, laid};
+ghost use Rattle.hull.specs.Points.{many};
 ghost use Rattle.numbers_out.specs.Maps.{mapOf, elevenOf, mappedResult, mappedAfter};
 ghost use Rattle.numbers_out.specs.Maps.{pixelAt, pixelsOf};
 use transform::Mapped;

@@ -15,7 +15,8 @@ use lib.Ieee.Back.{round-whole}
 use lib.Ieee.Exact.{HasValue}
 use Rattle.laws.proofs.Stores.{map-append, stored-none, stored-append, stored-ext, stored-length, stored-laid}
 use Rattle.ieee.proofs.Vals.{mul-round}
-use Rattle.hull.specs.Points.{halfOf, numbersOf, floatsOf, laid}
+use Rattle.laws.specs.Lent.{laid}
+use Rattle.hull.specs.Points.{halfOf, numbersOf, floatsOf}
 use Rattle.laws.proofs.Joined.{joined-more, joined-add, joined-ext, joined-le}
 use Rattle.boundary.specs.Runs.{runStart, runEnd, edges}
 use Rattle.boundary.specs.Boundary.{rowPoints, columnPoints, rowsFrom, columnsFrom}

@@ -11,7 +11,8 @@ use Rattle.laws.specs.Move.{Box}
 use Rattle.checks.specs.Picture.{checkPicture}
 use Rattle.levels.specs.Level.{cells}
 use Rattle.regions.specs.Cells.{cells8}
-use Rattle.hull.specs.Points.{floatsOf, laid}
+use Rattle.laws.specs.Lent.{laid}
+use Rattle.hull.specs.Points.{floatsOf}
 use Rattle.boundary.specs.Boundary.{memberAt, boundary}
 use Rattle.outline.specs.declared.Answer.{Answer}
 use Rattle.outline.specs.declared.Answer.the-variants.{Points, Refused}

@@ -6,3 +6,4 @@ pub mod files;
 pub mod kept;
 pub mod rows;
 pub mod shapes;
+pub mod wholes;

@@ -11,7 +11,7 @@ use lib.Ieee.{Float}
 use borrow.Author.Tests.{lt-ltb, le-leb, eq-eqb}
 use Rattle.laws.specs.Move.{Box}
 use Rattle.laws.specs.Plane.{Plane, plane, drawn}
-use Rattle.laws.specs.Lent.{UntouchedPast}
+use Rattle.laws.specs.Lent.{UntouchedPast, laid}
 use Rattle.laws.proofs.Past.{past-front}
 use Rattle.laws.proofs.Planes.{plane-drawn}
 use Rattle.checks.specs.Picture.{Sides}
@@ -21,7 +21,7 @@ use Rattle.regions.specs.Kept.{keptCount, keptOf}
 use Rattle.regions.specs.Door.{noRegion, region, regionAt, keptRegions, levelsAfter, labelsAfter}
 use Rattle.regions.specs.declared.answer.Region.{Region}
 use Rattle.regions.proofs.Inside.{kept-inside}
-use Rattle.hull.specs.Points.{floatsOf, laid}
+use Rattle.hull.specs.Points.{floatsOf}
 use Rattle.boundary.specs.Boundary.{memberAt, isMember}
 use Rattle.boundary.proofs.Boundary.{Within, boundary-same}
 use Rattle.boundary.proofs.Members.{member-lists}

@@ -1,11 +1,10 @@
 -- The ring door's checks and its answer. Assumes nothing.
 --   good-begin, good-step, good-stop, good-end   the coordinates' test by one number more
---   told-true, told-false                        a test by what a function answered, and its negation took
---   points-in, room-in, version-in               what a check that passes tells
+--   room-in, version-in                          what a check that passes tells
 --   Passed, passed, passed-photo                 what an accepted call knows
 --   given-is, refused-is                         the answer of an accepted call, and of a refused one
 use mathlib.Core.Path.{_≡_, refl, sym, ap, _∙_}
-use mathlib.Core.Bool.{Bool, true, false, not, _&&_}
+use mathlib.Core.Bool.{Bool, true, false, _&&_}
 use mathlib.Core.List.{List}
 use Prim.Native.Nat.{ℕ, zero, suc, _+_, _-_, _*_, _%_, _≤_, _<_}
 use native.Mathlib.Nat.{sub-zero}
@@ -14,13 +13,14 @@ use borrow.Author.Tests.{leb-true, eqb-true}
 use lib.Dec.{leb, eqb}
 use lib.ListN.{length, getD}
 use lib.Ieee.{Float, nan}
-use Rattle.laws.proofs.Bools.{and-left, and-right, not-true, not-false}
+use Rattle.laws.proofs.Bools.{and-left, and-right}
 use Rattle.laws.proofs.Steps.{one-less, none-left}
 use Rattle.checks.specs.Picture.{isSide}
-use Rattle.checks.proofs.Checked.{check-step, side-in}
+use Rattle.checks.specs.Points.{isPoints}
+use Rattle.checks.proofs.Checked.{check-step, side-in, points-in}
 use Rattle.lcr_core.specs.Version.{isVersion}
 use Rattle.search.specs.Samples.{Photo}
-use Rattle.ring.specs.Checks.{isPoints, hasRoom, coordinateOf, coordinatesOn, coordinatesOf, checkRing}
+use Rattle.ring.specs.Checks.{hasRoom, coordinateOf, coordinatesOn, coordinatesOf, checkRing}
 use Rattle.ring.specs.Trace.{shortTrace, attemptOf}
 use Rattle.ring.specs.Door.{answerBy, answerOf}
 use Rattle.ring.specs.declared.quads.Trace.{Trace}
@@ -51,15 +51,6 @@ unfolding coordinatesOn
 good-end s n k z h q = sym (ap (λ (d : ℕ). coordinatesOn s d k) (none-left n k h)) ∙ q
 
 -- ---- what a check that passes tells
-pub told-true : {r b : Bool} → r ≡ b → not r ≡ false → b ≡ true
-told-true {r} e n = sym e ∙ not-false r n
-
-pub told-false : {r b : Bool} → r ≡ b → not r ≡ true → b ≡ false
-told-false {r} e n = sym e ∙ not-true r n
-
-pub points-in : (n : ℕ) → isPoints n ≡ true → n ≤ 32768
-points-in n e = leb-true n 32768 (and-right (eqb (n % 2) 0) (leb n 32768) e)
-
 pub room-in : (n a b c : ℕ) → hasRoom n a b c ≡ true → (n ≤ a) × (n ≤ b) × (n ≤ c)
 room-in n a b c e =
     let rest = and-right (leb n a) (leb n b && leb n c) e in (
@@ -94,7 +85,7 @@ passed w h bytes s a b c most e =
       wide = side-in w (p .0);
       high = side-in h (q .0);
       whole = eqb-true bytes (w * h) (r .0);
-      few = points-in (length s) (t .0);
+      few = points-in (length s) (t .0) .1;
       room = room-in (length s) a b c (u .0);
       version = version-in most (y .0);
     }

@@ -1,18 +1,15 @@
 -- The ring door's checks, as document 01's table has them. Definitions only. Assumes nothing.
-use Prim.Native.Nat.{ℕ, zero, suc, _+_, _%_}
+use Prim.Native.Nat.{ℕ, zero, suc, _+_}
 use mathlib.Core.Bool.{Bool, true, _&&_}
 use mathlib.Core.List.{List}
-use lib.Dec.{eqb, leb}
+use lib.Dec.{leb}
 use lib.Ieee.{Float, nan, binary32, le, ofBits}
 use lib.ListN.{length, getD}
 use Rattle.laws.specs.Check.{orRefuse}
 use Rattle.checks.specs.Picture.{checkPicture}
+use Rattle.checks.specs.Points.{isPoints}
 use Rattle.ieee.specs.Ops.{abs, finite}
 use Rattle.lcr_core.specs.Version.{isVersion}
-
--- n numbers are points, two each, and at most 16,384 of them.
-abbrev pub isPoints : ℕ → Bool
-isPoints n = eqb (n % 2) 0 && leb n 32768
 
 -- Three working lists of lengths a, b and c have n numbers or more.
 abbrev pub hasRoom : ℕ → ℕ → ℕ → ℕ → Bool

@@ -1,22 +1,13 @@
 // The ring door's checks, in document 01's order: 1, 2, 6, 3, 7, 8. 0 is none of them.
 use checks::check_picture;
+use checks::is_points;
 use lcr_core::version::Version;
 use lcr_core::version::VersionAnswer;
 ghost use mathlib.Core.Path.{_≡_};
 ghost use lib.ListN.{length};
 ghost use Rattle.lcr_core.specs.Version.{isVersion};
-ghost use Rattle.ring.specs.Checks.{isPoints, hasRoom, coordinateOf, coordinatesOf};
+ghost use Rattle.ring.specs.Checks.{hasRoom, coordinateOf, coordinatesOf};
 ghost use Rattle.ring.specs.Checks.{checkPoints, checkRing};
-
-// Whether so many numbers are points: two each, and at most 16,384 of them.
-fn is_points(n: usize) -> bool
-    ensures { λ r. ⌜ r ≡ isPoints n ⌝ }
-{
-    if n % 2 != 0 {
-        return false;
-    }
-    n <= 32768
-}
 
 // Whether three working lists have room for n numbers each.
 fn has_room(n: usize, a: usize, b: usize, c: usize) -> bool

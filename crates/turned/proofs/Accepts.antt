@@ -1,7 +1,8 @@
 -- The doors accept a picture taken, moved or not.
 --     all-pass, pass-true       checks that pass, one after the other
 --     sides-within              the moved sides of a picture taken;  bytes-moved  the moved bytes are bytes
---     doors-accept              the three parts
+--     points-few, points-up     the points of a region answered, for the doors by whole numbers
+--     doors-accept              all of it
 -- Assumes nothing.
 use mathlib.Core.Path.{_≡_, refl, sym, ap, ap₂, _∙_, subst}
 use mathlib.Core.Bool.{Bool, true, false, _&&_}
@@ -29,18 +30,24 @@ use Rattle.regions.specs.Door.{checkGrids, region, keptRegions}
 use Rattle.regions.specs.declared.answer.Kept.{Kept}
 use Rattle.regions.specs.declared.answer.Region.{Region}
 use Rattle.regions.proofs.Regions.{region-cell, region-in}
-use Rattle.outline.specs.Door.{checkOutline}
-use Rattle.turned.specs.Claims.{Taken}
-use Rattle.turned.specs.Calls.{Pictured, regionOf, checkedFor}
-use Rattle.turned.specs.Accepts.{DoorsAccept}
-use Rattle.turned.proofs.Calls.{regions-is, region-is, grid-room, label-room}
+use Rattle.hull.specs.Points.{UpTo}
+use Rattle.boundary.specs.Boundary.{memberAt}
+use Rattle.boundary.proofs.Boundary.{Within}
+use Rattle.boundary.proofs.Outlines.{boundary-within}
+use Rattle.outline.specs.Door.{boxAt, doorPoints}
+use Rattle.outline.proofs.Doors.{points-le}
+use Rattle.turned.specs.Taken.{Taken}
+use Rattle.turned.specs.Calls.{Pictured, regionOf, checkedFor, pointsFor, Outlined, listed}
+use Rattle.turned.specs.Accepts.{WholeAccepted, DoorsAccept}
+use Rattle.turned.proofs.Calls.{regions-is, region-is, grid-room, label-room, listed-is}
+use Rattle.turned.proofs.Wholes.{whole-accepted}
 
 -- ---- the picture door
 
 side-is : (n : ℕ) → 1 ≤ n → n ≤ 4096 → isSide n ≡ true
 side-is n a b = both (leb 1 n) (leb n 4096) (le-leb 1 n a) (le-leb n 4096 b)
 
-pictures : (W H : ℕ) (s : List ℕ) → Taken W H s → (grid labels stack : ℕ)
+pictures : (W H : ℕ) (s : List ℕ) → Taken 4096 W H s → (grid labels stack : ℕ)
     → cells (16 * W) * cells (16 * H) ≤ grid → cellsOf (16 * W) (16 * H) ≤ labels → cellsOf (16 * W) (16 * H) ≤ stack
     → checkGrids (16 * W) (16 * H) (length s) grid labels stack ≡ 0
 pictures W H s t grid labels stack g l k =
@@ -58,6 +65,16 @@ pictures W H s t grid labels stack g l k =
     )
 
 -- ---- moved pictures
+
+wider : (most more W H : ℕ) (s : List ℕ) → most ≤ more → Taken most W H s → Taken more W H s
+wider most more W H s l t = record {
+  wide = t .wide;
+  wide-most = let a = t .wide-most in omega arith;
+  high = t .high;
+  high-most = let a = t .high-most in omega arith;
+  many = t .many;
+  bytes = t .bytes;
+}
 
 within : (m : Move) (w h n : ℕ) → (1 ≤ w) × (w ≤ n) → (1 ≤ h) × (h ≤ n)
     → (1 ≤ wideOf m w h) × (wideOf m w h ≤ n) × (1 ≤ highOf m w h) × (highOf m w h ≤ n)
@@ -82,8 +99,8 @@ byte-at m w h s many bytes x y lx ly =
     ∙ moved-at m w h (plane w s) a c (b .0) (b .1) in
     subst (λ (n : ℕ). n < 256) (sym e) (bytes (c * w + a) (let l = place-lt a c w h (b .0) (b .1) in omega arith))
 
-moved-taken : (W H : ℕ) (s : List ℕ) → Taken W H s → (m : Move) → Taken (wideOf m W H) (highOf m W H) (movedBytes m (16 * W) (16 * H) s)
-moved-taken W H s t m =
+moved-taken : (most W H : ℕ) (s : List ℕ) → Taken most W H s → (m : Move) → Taken most (wideOf m W H) (highOf m W H) (movedBytes m (16 * W) (16 * H) s)
+moved-taken most W H s t m =
     let sides = sides-times m 16 W H in
     let r = within m (16 * W) (16 * H) _ ((let a = t .wide in omega arith), t .wide-most) ((let a = t .high in omega arith), t .high-most) in
     let w′ = wideOf m (16 * W) (16 * H) in
@@ -119,7 +136,7 @@ inside : (p : Plane) (w h i : ℕ)
 unfolding region
 inside p w h i r = record { across = r .0; down = r .1; right = r .2; bottom = r .3 }
 
-checked : (W H : ℕ) (s : List ℕ) → Taken W H s → (c : Pictured s (16 * W) (16 * H)) (r : Region) (room : ℕ) → Inside r (16 * W) (16 * H)
+checked : (W H : ℕ) (s : List ℕ) → Taken 4096 W H s → (c : Pictured s (16 * W) (16 * H)) (r : Region) (room : ℕ) → Inside r (16 * W) (16 * H)
     → 4 * (r .x1 - r .x0 + (r .y1 - r .y0)) ≤ room → checkedFor s (16 * W) (16 * H) c r room ≡ 0
 checked W H s t c r room at fit =
     let a = t .wide in
@@ -140,7 +157,22 @@ checked W H s t c r room at fit =
       le-leb (4 * (r .x1 - r .x0 + (r .y1 - r .y0))) room fit,
     )
 
-outlines : (W H : ℕ) (s : List ℕ) → Taken W H s → (c : Pictured s (16 * W) (16 * H)) (i room : ℕ)
+-- a region that was answered
+region-inside : (W H : ℕ) (s : List ℕ) → Taken 4096 W H s → (c : Pictured s (16 * W) (16 * H)) (i : ℕ)
+    → i < c .answer .regions .kept → Inside (regionOf s (16 * W) (16 * H) c i) (16 * W) (16 * H)
+region-inside W H s t c i l =
+    let w = 16 * W in
+    let h = 16 * H in
+    let p = plane w s in
+    let a = t .wide in
+    let d = t .high in
+    let k : i < keptCount p w h =
+    subst (λ (n : ℕ). i < n) (ap (λ (z : Kept). z .kept) (regions-is s w h c) ∙ unfold keptRegions in refl) l in
+    let z = region-cell p w h i k in
+    let r = region-in p w h (keptLabel p w h i) (omega arith) (z .0) (z .1) (z .2) in
+    subst (λ (q : Region). Inside q w h) (sym (region-is s w h c i k)) (inside p w h i r)
+
+outlines : (W H : ℕ) (s : List ℕ) → Taken 4096 W H s → (c : Pictured s (16 * W) (16 * H)) (i room : ℕ)
     → i < c .answer .regions .kept
     → 4 * (regionOf s (16 * W) (16 * H) c i .x1 - regionOf s (16 * W) (16 * H) c i .x0
     + (regionOf s (16 * W) (16 * H) c i .y1 - regionOf s (16 * W) (16 * H) c i .y0)) ≤ room
@@ -148,20 +180,43 @@ outlines : (W H : ℕ) (s : List ℕ) → Taken W H s → (c : Pictured s (16 * 
 outlines W H s t c i room l fit =
     let w = 16 * W in
     let h = 16 * H in
-    let p = plane w s in
-    let a = t .wide in
-    let b = t .wide-most in
-    let d = t .high in
-    let e = t .high-most in
-    let k : i < keptCount p w h =
-    subst (λ (n : ℕ). i < n) (ap (λ (z : Kept). z .kept) (regions-is s w h c) ∙ unfold keptRegions in refl) l in
-    let z = region-cell p w h i k in
-    let r = region-in p w h (keptLabel p w h i) (omega arith) (z .0) (z .1) (z .2) in
-    checked W H s t c (regionOf s w h c i) room (subst (λ (q : Region). Inside q w h) (sym (region-is s w h c i k)) (inside p w h i r)) fit
+    checked W H s t c (regionOf s w h c i) room (region-inside W H s t c i l) fit
+
+-- ---- the doors after it, by whole numbers
+
+-- its points are at most 16,384, with coordinates up to 8,192
+points-few : (s : List ℕ) (w h : ℕ) (c : Pictured s w h) (r : Region) → Inside r w h → w ≤ 4096 → h ≤ 4096 → length (pointsFor s w h c r) ≤ 16384
+unfolding doorPoints
+points-few s w h c r at lw lh =
+    let a = at .right in
+    let b = at .bottom in
+    let n = points-le 4 (memberAt (r .label) w s (c .grid) (c .labels)) (boxAt (r .x0) (r .y0) (r .x1) (r .y1)) in
+    omega arith
+
+points-up : (s : List ℕ) (w h : ℕ) (c : Pictured s w h) (r : Region) → Inside r w h → w ≤ 4096 → h ≤ 4096 → UpTo 8192 (pointsFor s w h c r)
+unfolding doorPoints
+points-up s w h c r at lw lh q t =
+    let b : Within (boxAt (r .x0) (r .y0) (r .x1) (r .y1)) w h =
+    record { across′ = (let l = at .across in omega arith); down′ = (let l = at .down in omega arith); wide = at .right; high = at .bottom } in
+    let k = boundary-within 4 w h (memberAt (r .label) w s (c .grid) (c .labels)) (boxAt (r .x0) (r .y0) (r .x1) (r .y1)) b q t in
+    (omega (arith, k .0, lw), omega (arith, k .1, lh))
+
+wholes : (W H : ℕ) (s : List ℕ) → Taken 4096 W H s → (c : Pictured s (16 * W) (16 * H)) (i : ℕ)
+    → i < c .answer .regions .kept → (o : Outlined s (16 * W) (16 * H) c (regionOf s (16 * W) (16 * H) c i))
+    → WholeAccepted (listed (o .answer) (o .list))
+wholes W H s t c i l o =
+    let w = 16 * W in
+    let h = 16 * H in
+    let r = regionOf s w h c i in
+    let at = region-inside W H s t c i l in
+    whole-accepted (pointsFor s w h c r) (listed (o .answer) (o .list)) (listed-is s w h c r o)
+    (points-up s w h c r at (t .wide-most) (t .high-most)) (points-few s w h c r at (t .wide-most) (t .high-most))
 
 pub doors-accept : DoorsAccept
 doors-accept = record {
-  moved = λ W H s t m. (sides-times m 16 W H .0, sides-times m 16 W H .1, moved-taken W H s t m);
+  moved = λ most W H s t m. (sides-times m 16 W H .0, sides-times m 16 W H .1, moved-taken most W H s t m);
+  wider = wider;
   picture = pictures;
   outline = outlines;
+  whole = wholes;
 }

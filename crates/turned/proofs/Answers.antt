@@ -2,6 +2,7 @@
 --     count-is, vertices-is      the vertices that a call lists, of points in doubled coordinates
 --     round-long, rot-long       a moved way round has as many points
 --     none-both                  no quad in both, or in neither
+--     by-floats                  all of these of a picture and of the moved one
 --     marks-moved                the eight counts of moved marks
 -- Assumes nothing.
 use mathlib.Core.Path.{_≡_, refl, sym, ap, ap₂, _∙_, subst}
@@ -18,10 +19,11 @@ use lib.Seq.{take-at}
 use Rattle.laws.specs.Move.{Move, isFlipped}
 use Rattle.whole.specs.Points.{Pt, Rot}
 use Rattle.whole.specs.Moves.{pointOf, movedRound}
-use Rattle.hull.specs.Points.{many, ptOf, ptsOf, numbersOf, floatsOf, laid}
+use Rattle.laws.specs.Lent.{laid}
+use Rattle.hull.specs.Points.{many, ptOf, ptsOf, numbersOf, floatsOf}
 use Rattle.hull.specs.Hull.{hullOf, hullFloats, hullPoints}
 use Rattle.hull.specs.Door.{verticesAfter}
-use Rattle.hull.specs.Quad.{valuesOf}
+use Rattle.hull.specs.Quad.{quadPoints, quadFloats, valuesOf}
 use Rattle.hull.specs.declared.Hulled.{Hulled}
 use Rattle.hull.specs.declared.Hulled.the-variants.{Vertices}
 use Rattle.hull.specs.declared.points.Corners.{Corners}
@@ -32,9 +34,10 @@ use Rattle.marks.specs.Pose.{MarkMove, MarksMoved, cornerTo, reversedTo, agreem
 use Rattle.marks.specs.Doors.{correlateAnswer, markedPose, countsBeside}
 use Rattle.marks.specs.declared.correlate.Best.{Best}
 use Rattle.marks.proofs.PosesMoved.{poses-moved}
-use Rattle.turned.specs.Calls.{HullCall, countOf, verticesOf, CorrelateCall}
+use Rattle.turned.specs.Calls.{HullCall, countOf, verticesOf, QuadCall, CorrelateCall}
+use Rattle.turned.specs.Outlines.{ShapesAlike, ByFloats}
 use Rattle.turned.specs.Doors.{countAt, MarkDoorMoved}
-use Rattle.turned.proofs.Floats.{many-floats, hull-floats}
+use Rattle.turned.proofs.Floats.{many-floats, hull-floats, quad-floats}
 
 -- ---- vertices
 
@@ -58,6 +61,9 @@ module _ (L : List (ℕ × ℕ)) (l : List Float) (e : l ≡ floatsOf L) (k : Hu
     where
       vertices : hullFloats l ≡ floatsOf (hullPoints L)
       vertices = ap hullFloats e ∙ hull-floats L
+
+  pub cornered : (q : QuadCall (verticesOf l k)) → valuesOf (q .answer) ≡ floatsOf (quadPoints (hullPoints L))
+  cornered q = q .answer-is ∙ ap quadFloats vertices-is ∙ quad-floats (hullPoints L)
 
 -- ---- as many
 
@@ -109,6 +115,28 @@ none-both a a′ L L′ e e′ same =
     let z = none-empty a L e in
     let z′ = none-empty a′ L′ e′ in
     (λ n. z′ .1 (same ∙ z .0 n), λ n. z .1 (sym same ∙ z′ .0 n))
+
+-- ---- a picture and the moved one
+
+pub by-floats : (m : Move) (w h : ℕ) (L L′ : List (ℕ × ℕ)) (l l′ : List Float) → l ≡ floatsOf L → l′ ≡ floatsOf L′
+    → ShapesAlike m w h L L′ (hullPoints L) (hullPoints L′) (quadPoints (hullPoints L)) (quadPoints (hullPoints L′)) → ByFloats m w h l l′
+unfolding ByFloats
+by-floats m w h L L′ l l′ e e′ shapes k k′ q q′ = record {
+  points = L;
+  points′ = L′;
+  vertices = hullPoints L;
+  vertices′ = hullPoints L′;
+  corners = quadPoints (hullPoints L);
+  corners′ = quadPoints (hullPoints L′);
+  stored = (e, e′);
+  hulled = (vertices-is L l e k, vertices-is L′ l′ e′ k′);
+  cornered = (cornered L l e k q, cornered L′ l′ e′ k′ q′);
+  count = count-is L′ l′ e′ k′ ∙ as-many m w h (hullPoints L) (hullPoints L′) (shapes .hull .0) ∙ sym (count-is L l e k);
+  alike = shapes;
+  none = λ a b far one other.
+      none-both (q .answer) (q′ .answer) (quadPoints (hullPoints L)) (quadPoints (hullPoints L′)) (cornered L l e k q) (cornered L′ l′ e′ k′ q′)
+      (as-many m w h (quadPoints (hullPoints L)) (quadPoints (hullPoints L′)) (shapes .quad a b far one other .0));
+}
 
 -- ---- marks
 

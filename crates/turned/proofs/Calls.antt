@@ -31,7 +31,8 @@ use Rattle.regions.specs.Door.{noRegion, region, regionAt, keptRegions, checkGr
 use Rattle.regions.specs.declared.answer.Kept.{Kept}
 use Rattle.regions.specs.declared.answer.PictureAnswer.{PictureAnswer}
 use Rattle.regions.specs.declared.answer.Region.{Region}
-use Rattle.hull.specs.Points.{floatsOf, laid}
+use Rattle.laws.specs.Lent.{laid}
+use Rattle.hull.specs.Points.{floatsOf}
 use Rattle.boundary.specs.Runs.{edges}
 use Rattle.boundary.specs.Boundary.{memberOf, isMember, memberAt, across, down}
 use Rattle.boundary.specs.Boundary.{rowPoints, columnPoints, rowsFrom, columnsFrom, boundary, outlineOf}

@@ -7,7 +7,6 @@ use Prim.Native.Nat.{ℕ, zero, suc, _+_, _*_, _/_, _<_, _≤_}
 use native.Mathlib.Omega.{arith}
 use lib.Dec.{ltb}
 use lib.Ieee.{Float}
-use lib.ListN.{length}
 use Rattle.laws.specs.Plane.{Plane, plane, Alike}
 use Rattle.laws.specs.Move.{Move, wideOf, highOf, moved, placeOf, Box, boxOf, movedBytes}
 use Rattle.laws.proofs.Planes.{plane-drawn}
@@ -20,32 +19,21 @@ use Rattle.regions.specs.Boxes.{regionBox}
 use Rattle.regions.specs.Door.{region, keptRegions}
 use Rattle.regions.specs.declared.answer.Kept.{Kept}
 use Rattle.regions.specs.declared.answer.Region.{Region}
-use Rattle.hull.specs.Points.{floatsOf}
-use Rattle.hull.specs.Hull.{hullPoints}
-use Rattle.hull.specs.Quad.{quadPoints, quadFloats, valuesOf}
+use Rattle.hull.specs.Points.{floatsOf, UpTo}
 use Rattle.boundary.specs.Boundary.{outlineOf}
 use Rattle.boundary.proofs.Boundary.{Within, box-within}
 use Rattle.boundary.proofs.Points.{region-within}
 use Rattle.outline.specs.Door.{boxAt}
-use Rattle.turned.specs.Claims.{
-  Taken,
-  NoTies,
-  Moved,
-  SameThresholds,
-  SameInk,
-  SameInkCells,
-  SameGroups,
-  SameRegion,
-  SamePoints,
-  SameHull,
-  SameQuad,
-}
-use Rattle.turned.specs.Calls.{Pictured, regionOf, pointsFor, Outlined, listed, HullCall, verticesOf, QuadCall}
-use Rattle.turned.specs.Doors.{OutlinesAlike, RegionsAlike, DoorsAlike, PictureDoorsMoved, DoorsMoved}
-use Rattle.turned.proofs.Floats.{quad-floats}
-use Rattle.turned.proofs.Answers.{count-is, vertices-is, as-many, none-both, marks-moved}
+use Rattle.turned.specs.Taken.{Taken, NoTies, Way, inFloats, inWholes}
+use Rattle.turned.specs.Claims.{Moved, SameThresholds, SameInk, SameInkCells, SameGroups, SameRegion, SamePoints, SameHull, SameQuad}
+use Rattle.turned.specs.Calls.{Pictured, regionOf, Outlined, listed}
+use Rattle.turned.specs.Outlines.{ShapesAlike, ByFloats, ByWholes}
+use Rattle.turned.specs.Doors.{RegionsAlike, DoorsAlike, PictureDoorsMoved, DoorsMoved}
+use Rattle.turned.proofs.Answers.{by-floats, marks-moved}
+use Rattle.turned.proofs.Wholes.{by-wholes}
+use Rattle.turned.proofs.Shapes.{Exact, small, small′}
 use Rattle.turned.proofs.Calls.{regions-is, grid-at, label-at, region-is, points-is, listed-is}
-use Rattle.turned.proofs.Turned.{untied, moved-is}
+use Rattle.turned.proofs.Turned.{untied, moved-is, floats-exact, wholes-exact}
 
 -- a label is 0 exactly where the cell is no ink cell
 label-none : (p : Plane) (w h x y : ℕ) → labelAt p w h x y ≡ 0 → inkCell p w h (cell (cells8 w) x y) ≡ false
@@ -76,8 +64,8 @@ swap a b c d a′ b′ c′ d′ ea eb ec ed f =
 all-is : (s : List ℕ) (w h : ℕ) (c : Pictured s w h) → c .answer .regions .all ≡ groupsOf (plane w s) w h
 all-is s w h c = ap (λ (k : Kept). k .all) (regions-is s w h c) ∙ unfold keptRegions in refl
 
-module _ (m : Move) (W H : ℕ) (s : List ℕ) (c : Pictured s (16 * W) (16 * H)) (s′ : List ℕ)
-    (c′ : Pictured s′ (wideOf m (16 * W) (16 * H)) (highOf m (16 * W) (16 * H))) (t : Taken W H s)
+module _ (n : ℕ) (way : Way) (exact : Exact n way) (m : Move) (W H : ℕ) (s : List ℕ) (c : Pictured s (16 * W) (16 * H)) (s′ : List ℕ)
+    (c′ : Pictured s′ (wideOf m (16 * W) (16 * H)) (highOf m (16 * W) (16 * H))) (most : ℕ) (fit : 2 * most ≤ n) (t : Taken most W H s)
     (ties : NoTies (plane (16 * W) s) (16 * W) (16 * H))
     (same : Alike (wideOf m (16 * W) (16 * H)) (highOf m (16 * W) (16 * H)) (plane (wideOf m (16 * W) (16 * H)) s′)
     (moved m (16 * W) (16 * H) (plane (16 * W) s))) where
@@ -99,8 +87,14 @@ module _ (m : Move) (W H : ℕ) (s : List ℕ) (c : Pictured s (16 * W) (16 * H)
   abbrev p′ : Plane
   p′ = plane w′ s′
 
-  claim : Moved m W H p p′
-  claim = moved-is m W H p p′ (t .wide) (t .high) (t .wide-most) (t .high-most) same ties
+  lessW : 2 * (16 * W) ≤ n
+  lessW = let a = t .wide-most in omega arith
+
+  lessH : 2 * (16 * H) ≤ n
+  lessH = let a = t .high-most in omega arith
+
+  claim : Moved m W H p p′ way
+  claim = moved-is n way exact m W H p p′ (t .wide) (t .high) lessW lessH same ties
 
   -- as many level cells and region cells as the moved sides have
   level-cells : (cells w′ ≡ wideOf m W H) × (cells h′ ≡ highOf m W H)
@@ -219,67 +213,57 @@ module _ (m : Move) (W H : ℕ) (s : List ℕ) (c : Pictured s (16 * W) (16 * H)
       stored′ : listed (o′ .answer) (o′ .list) ≡ floatsOf L′
       stored′ = listed-is s′ w′ h′ c′ (regionOf s′ w′ h′ c′ i) o′ ∙ ap floatsOf (points-is s′ w′ h′ c′ i l′ within′)
 
-      abbrev n : List Float
-      n = listed (o .answer) (o .list)
+    pub shapes : ShapesAlike m w h L L′ (way .hullOfPoints L) (way .hullOfPoints L′) (way .quadOfHull (way .hullOfPoints L))
+        (way .quadOfHull (way .hullOfPoints L′))
+    unfolding SamePoints SameHull SameQuad
+    shapes = record { boundary = claim .boundary i l; hull = claim .hulls i l; quad = claim .quads i l }
 
-      abbrev n′ : List Float
-      n′ = listed (o′ .answer) (o′ .list)
+    pub up : UpTo n L
+    up = small n way exact m W H p p′ (t .wide) (t .high) lessW lessH same (untied p w h ties) i l
 
-      module _ (k : HullCall n) (k′ : HullCall n′) (q : QuadCall (verticesOf n k)) (q′ : QuadCall (verticesOf n′ k′)) where
-        abbrev K : List (ℕ × ℕ)
-        K = hullPoints L
+    pub up′ : UpTo n L′
+    up′ = small′ n way exact m W H p p′ (t .wide) (t .high) lessW lessH same (untied p w h ties) i l
 
-        abbrev K′ : List (ℕ × ℕ)
-        K′ = hullPoints L′
-
-        cornered : valuesOf (q .answer) ≡ floatsOf (quadPoints K)
-        cornered = q .answer-is ∙ ap quadFloats (vertices-is L n stored k) ∙ quad-floats K
-
-        cornered′ : valuesOf (q′ .answer) ≡ floatsOf (quadPoints K′)
-        cornered′ = q′ .answer-is ∙ ap quadFloats (vertices-is L′ n′ stored′ k′) ∙ quad-floats K′
-
-        outlines : OutlinesAlike m w h n n′ k k′ q q′
-        unfolding SamePoints SameHull SameQuad
-        outlines = record {
-          points = L;
-          points′ = L′;
-          vertices = K;
-          vertices′ = K′;
-          corners = quadPoints K;
-          corners′ = quadPoints K′;
-          stored = (stored, stored′);
-          hulled = (vertices-is L n stored k, vertices-is L′ n′ stored′ k′);
-          cornered = (cornered, cornered′);
-          boundary = claim .boundary i l;
-          count = count-is L′ n′ stored′ k′ ∙ as-many m w h K K′ (claim .hulls i l .0) ∙ sym (count-is L n stored k);
-          hull = claim .hulls i l;
-          quad =
-              λ a b far one other.
-              let r = claim .quads i l a b far one other in (
-                r .0,
-                r .1,
-                none-both (q .answer) (q′ .answer) (quadPoints K) (quadPoints K′) cornered cornered′
-                    (as-many m w h (quadPoints K) (quadPoints K′) (r .0)),
-              );
-        }
-
-  pub alike : DoorsAlike m W H s c s′ c′
-  alike = record {
+  -- what the numbers of a region's points and of the moved one's give, is given for every region answered
+  pub alike : (A : List Float → List Float → Type 0)
+      → ((i : ℕ) (l : i < keptCount p w h) (r r′ : List Float) → r ≡ floatsOf (L i l) → r′ ≡ floatsOf (L′ i l) → A r r′)
+      → DoorsAlike m W H s c s′ c′ A
+  alike A each = record {
     thresholds = thresholds;
     ink = ink;
     unlabelled = unlabelled;
     groups = groups;
     all = all-is s′ w′ h′ c′ ∙ claim .many ∙ sym (all-is s w h c);
     kept = kept-is′ ∙ claim .kept ∙ sym kept-is;
-    regions = λ i l. regions i (subst (λ (n : ℕ). i < n) kept-is l);
-    outlines = λ i l. outlines i (subst (λ (n : ℕ). i < n) kept-is l);
+    regions = λ i l. regions i (subst (λ (k : ℕ). i < k) kept-is l);
+    outlines = λ i l o o′.
+        let l′ = subst (λ (k : ℕ). i < k) kept-is l in
+        each i l′ (listed (o .answer) (o .list)) (listed (o′ .answer) (o′ .list)) (stored i l′ o o′) (stored′ i l′ o o′);
   }
 
-pictures-moved : PictureDoorsMoved
+same-as : (m : Move) (W H : ℕ) (s : List ℕ)
+    → Alike (wideOf m (16 * W) (16 * H)) (highOf m (16 * W) (16 * H)) (plane (wideOf m (16 * W) (16 * H)) (movedBytes m (16 * W) (16 * H) s))
+    (moved m (16 * W) (16 * H) (plane (16 * W) s))
+same-as m W H s =
+    plane-drawn (wideOf m (16 * W) (16 * H)) (highOf m (16 * W) (16 * H)) (moved m (16 * W) (16 * H) (plane (16 * W) s)) []
+
+pictures-moved : PictureDoorsMoved 1024 ByFloats
 unfolding PictureDoorsMoved
 pictures-moved W H s t ties m c c′ =
-    alike m W H s c (movedBytes m (16 * W) (16 * H) s) c′ t ties
-    (plane-drawn (wideOf m (16 * W) (16 * H)) (highOf m (16 * W) (16 * H)) (moved m (16 * W) (16 * H) (plane (16 * W) s)) [])
+    alike 2048 inFloats floats-exact m W H s c (movedBytes m (16 * W) (16 * H) s) c′ 1024 (omega arith) t ties (same-as m W H s)
+    (ByFloats m (16 * W) (16 * H))
+    (λ i l r r′ e e′. by-floats m (16 * W) (16 * H) _ _ r r′ e e′
+    (shapes 2048 inFloats floats-exact m W H s c (movedBytes m (16 * W) (16 * H) s) c′ 1024 (omega arith) t ties (same-as m W H s) i l))
+
+large-moved : PictureDoorsMoved 4096 ByWholes
+unfolding PictureDoorsMoved
+large-moved W H s t ties m c c′ =
+    alike 8192 inWholes wholes-exact m W H s c (movedBytes m (16 * W) (16 * H) s) c′ 4096 (omega arith) t ties (same-as m W H s)
+    (ByWholes m (16 * W) (16 * H))
+    (λ i l r r′ e e′. by-wholes m (16 * W) (16 * H) _ _ r r′ e e′
+    (up 8192 inWholes wholes-exact m W H s c (movedBytes m (16 * W) (16 * H) s) c′ 4096 (omega arith) t ties (same-as m W H s) i l)
+    (up′ 8192 inWholes wholes-exact m W H s c (movedBytes m (16 * W) (16 * H) s) c′ 4096 (omega arith) t ties (same-as m W H s) i l)
+    (shapes 8192 inWholes wholes-exact m W H s c (movedBytes m (16 * W) (16 * H) s) c′ 4096 (omega arith) t ties (same-as m W H s) i l))
 
 pub doors-moved : DoorsMoved
-doors-moved = record { pictures = pictures-moved; marks = marks-moved }
+doors-moved = record { pictures = pictures-moved; large = large-moved; marks = marks-moved }

@@ -14,6 +14,13 @@ use Rattle.hull.specs.declared.Hulled.{Hulled}
 use Rattle.hull.specs.declared.Hulled.the-variants as hull
 use Rattle.hull.specs.Quad.{quadFloats, valuesOf}
 use Rattle.hull.specs.declared.points.Corners.{Corners}
+use Rattle.doubled.specs.Checks.{checkHull}
+use Rattle.doubled.specs.Doubled.{checkDoubled, doubledAfter}
+use Rattle.whole_hull.specs.Door.{hullAnswer, hullAfter}
+use Rattle.whole_hull.specs.declared.Answer.{Answer as WholeAnswer}
+use Rattle.whole_hull.specs.declared.Answer.the-variants as whole
+use Rattle.whole_quad.specs.Door.{quadAnswer}
+use Rattle.whole_quad.specs.declared.corners.Corners.{Corners as WholeCorners}
 use Rattle.outline.specs.Door.{checkOutline, doorPoints, answered, listAfter}
 use Rattle.outline.specs.declared.Answer.{Answer}
 use Rattle.outline.specs.declared.Answer.the-variants.{Points, Refused}
@@ -61,7 +68,7 @@ abbrev pub listed : Answer → List Float → List Float
 listed (Points n) l = take (2 * n) l
 listed (Refused n) l = []
 
--- ---- hull and quad
+-- ---- hull and quad, by f32 numbers
 
 -- An accepted call of `convex_hull` on the numbers l: the list as lent, the answer, and the list as left.
 pub record HullCall (l : List Float) : Type 0 where
@@ -84,6 +91,43 @@ verticesOf l k = take (2 * countOf (k .answer)) (k .list)
 pub record QuadCall (l : List Float) : Type 0 where
   pub answer : Corners
   pub answer-is : valuesOf answer ≡ quadFloats l
+
+-- ---- hull and quad, by whole numbers
+
+-- An accepted call of `doubled` on the numbers l: the list as lent, the answer, and the list as left.
+pub record DoubledCall (l : List Float) : Type 0 where
+  pub lent : List ℕ
+  pub answer : ℕ
+  pub list : List ℕ
+  pub answer-is : answer ≡ checkDoubled l (length lent)
+  pub list-is : list ≡ doubledAfter answer l lent
+  pub accepted : answer ≡ 0
+
+-- The numbers that it stored: as many as it was handed.
+abbrev pub storedBy : (l : List Float) → DoubledCall l → List ℕ
+storedBy l d = take (length l) (d .list)
+
+-- An accepted call of whole_hull's `convex_hull` on the numbers p: the list as lent, the answer, and the list as left.
+pub record WholeHullCall (p : List ℕ) : Type 0 where
+  pub lent : List ℕ
+  pub answer : WholeAnswer
+  pub list : List ℕ
+  pub answer-is : answer ≡ hullAnswer p (length lent)
+  pub list-is : list ≡ hullAfter answer p lent
+  pub accepted : checkHull p (length lent) ≡ 0
+
+-- How many vertices it answered, and the numbers of those that it listed.
+abbrev pub wholeCount : WholeAnswer → ℕ
+wholeCount (whole.Vertices n) = n
+wholeCount (whole.Refused n) = 0
+
+abbrev pub wholeVertices : (p : List ℕ) → WholeHullCall p → List ℕ
+wholeVertices p k = take (2 * wholeCount (k .answer)) (k .list)
+
+-- A call of whole_quad's `quad` on the numbers p.
+pub record WholeQuadCall (p : List ℕ) : Type 0 where
+  pub answer : WholeCorners
+  pub answer-is : answer ≡ quadAnswer p
 
 -- ---- marks
 

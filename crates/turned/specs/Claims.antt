@@ -1,6 +1,7 @@
 -- Demand 3 as one claim, in the words of document 01, "What demand 3 compares": over every picture, move, version and list of marks,
 -- of the same definitions that the doors' contracts cite. Statements only. A `Move` is any number of quarter turns, with or without the
--- mirror first; points are in doubled coordinates, so that centres and edges of pixels are whole.
+-- mirror first; points are in doubled coordinates, so that centres and edges of pixels are whole. How hull and quad are worked out, and the
+-- greatest side, are parameters: f32 numbers up to 1,024, and whole numbers up to 4,096.
 --
 -- The conditions are needed. Equal counts are told apart by their labels, and a move renumbers labels. The picture of document 01's
 -- example is its own mirror image and its quad is not: more than one pair of its hull's vertices is farthest apart.
@@ -8,39 +9,20 @@ use mathlib.Core.Path.{_≡_}
 use mathlib.Core.Logic.{_↔_}
 use mathlib.Core.Bool.{true}
 use mathlib.Core.List.{List}
-use Prim.Native.Nat.{ℕ, _*_, _≤_, _<_}
-use lib.ListN.{length, getD}
+use Prim.Native.Nat.{ℕ, _*_, _<_}
 use Rattle.laws.specs.Plane.{Plane, plane}
 use Rattle.laws.specs.Move.{Move, wideOf, highOf, placeOf, boxOf, movedBytes}
 use Rattle.whole.specs.Points.{Pt, Rot, NoDup, Clockwise, Starts}
 use Rattle.whole.specs.Quad.{Far, OneTop}
 use Rattle.whole.specs.Moves.{often, pointOf, movedRound}
 use Rattle.levels.specs.Level.{level, inkAt}
-use Rattle.regions.specs.Cells.{cells8, cell, inkCell, labelAt, groupsOf, groupSize}
+use Rattle.regions.specs.Cells.{cells8, cell, inkCell, labelAt, groupsOf}
 use Rattle.regions.specs.Kept.{keptCount, keptLabel, keptCells}
 use Rattle.regions.specs.Boxes.{regionBox}
 use Rattle.hull.specs.Points.{ptsOf}
-use Rattle.hull.specs.Hull.{hullPoints}
-use Rattle.hull.specs.Quad.{quadPoints}
 use Rattle.boundary.specs.Boundary.{outlineOf}
 use Rattle.marks.specs.Claims.{PosesMoved}
-
--- ---- what is taken
-
--- A picture with sides that are multiples of 16, at most 1,024: one byte a pixel, row by row.
-pub record Taken (W H : ℕ) (s : List ℕ) : Type 0 where
-  pub wide : 1 ≤ W
-  pub wide-most : 16 * W ≤ 1024
-  pub high : 1 ≤ H
-  pub high-most : 16 * H ≤ 1024
-  pub many : length s ≡ 16 * W * (16 * H)
-  pub bytes : (i : ℕ) → i < length s → getD s i 0 < 256
-
--- No two regions of 16 or more cells have equal counts.
-unfoldable pub NoTies : Plane → ℕ → ℕ → Type 0
-NoTies p w h =
-    (a b : ℕ) → a < groupsOf p w h → b < groupsOf p w h
-    → 16 ≤ groupSize p w h a → 16 ≤ groupSize p w h b → groupSize p w h a ≡ groupSize p w h b → a ≡ b
+use Rattle.turned.specs.Taken.{Taken, NoTies, Way, inFloats, inWholes}
 
 -- ---- a picture p of w by h, which are 16 × W and 16 × H, and the moved picture p′ of w′ by h′
 module _ (m : Move) (W H : ℕ) (p p′ : Plane) where
@@ -89,62 +71,68 @@ module _ (m : Move) (W H : ℕ) (p p′ : Plane) where
       × (regionBox p′ w′ h′ (keptLabel p′ w′ h′ i) ≡ boxOf m w h (regionBox p w h (keptLabel p w h i)))
       × (keptCells p′ w′ h′ i ≡ keptCells p w h i)
 
-  -- The boundary points of the i-th kept region of each picture, with runs of 4 or more, the hulls of these, and their quads.
+  -- The boundary points of the i-th kept region of each picture, with runs of 4 or more.
   abbrev pub points : ℕ → List (ℕ × ℕ)
   points i = outlineOf 4 p w h (keptLabel p w h i)
 
   abbrev pub points′ : ℕ → List (ℕ × ℕ)
   points′ i = outlineOf 4 p′ w′ h′ (keptLabel p′ w′ h′ i)
 
-  abbrev pub hull : ℕ → List Pt
-  hull i = ptsOf (hullPoints (points i))
-
-  abbrev pub hull′ : ℕ → List Pt
-  hull′ i = ptsOf (hullPoints (points′ i))
-
-  abbrev pub quad : ℕ → List Pt
-  quad i = ptsOf (quadPoints (hullPoints (points i)))
-
-  abbrev pub quad′ : ℕ → List Pt
-  quad′ i = ptsOf (quadPoints (hullPoints (points′ i)))
-
   -- "A point is among its boundary points as often as the point moved there was among those of the first picture's i-th"
   unfoldable pub SamePoints : ℕ → Type 0
   SamePoints i = (q : Pt) → often (pointOf m w h q) (ptsOf (points′ i)) ≡ often q (ptsOf (points i))
 
-  -- "Its hull lists the moved vertices, each once, clockwise (x right, y down) from its own start"
-  unfoldable pub SameHull : ℕ → Type 0
-  SameHull i =
-      Rot (movedRound m w h (hull i)) (hull′ i) × NoDup (hull′ i) × Clockwise (hull′ i) × Starts (hull′ i) (ptsOf (points′ i))
+  -- ---- with hulls and quads worked out in some way
+  module _ (way : Way) where
+    -- The hulls of these points, and their quads.
+    abbrev pub hull : ℕ → List Pt
+    hull i = ptsOf (way .hullOfPoints (points i))
 
-  -- "Where, besides, exactly one pair of a region's hull vertices is farthest apart, and at most one vertex lies farthest out on each
-  -- side of it, its quad is none in both or has the same corners, moved alike, clockwise from some corner." None is the empty list,
-  -- which is no other list turned round; corners are clockwise as a hull's vertices are.
-  unfoldable pub SameQuad : ℕ → Type 0
-  SameQuad i = (a b : Pt) → Far (hull i) a b → OneTop (hull i) a b → OneTop (hull i) b a
-      → Rot (movedRound m w h (quad i)) (quad′ i) × Clockwise (quad′ i)
+    abbrev pub hull′ : ℕ → List Pt
+    hull′ i = ptsOf (way .hullOfPoints (points′ i))
 
-  pub record Moved : Type 0 where
-    pub thresholds : SameThresholds
-    pub ink : SameInk
-    pub inkCells : SameInkCells
-    pub groups : SameGroups
-    -- "the groups are the moved groups": there are no others
-    pub many : groupsOf p′ w′ h′ ≡ groupsOf p w h
-    -- "As many regions are kept", and of each of them:
-    pub kept : keptCount p′ w′ h′ ≡ keptCount p w h
-    pub regions : (i : ℕ) → i < keptCount p w h → SameRegion i
-    pub boundary : (i : ℕ) → i < keptCount p w h → SamePoints i
-    pub hulls : (i : ℕ) → i < keptCount p w h → SameHull i
-    pub quads : (i : ℕ) → i < keptCount p w h → SameQuad i
+    abbrev pub quad : ℕ → List Pt
+    quad i = ptsOf (way .quadOfHull (way .hullOfPoints (points i)))
 
--- Every picture taken, every move.
-unfoldable pub PicturesMoved : Type 0
-PicturesMoved = (W H : ℕ) (s : List ℕ) → Taken W H s → NoTies (plane (16 * W) s) (16 * W) (16 * H) → (m : Move)
-    → Moved m W H (plane (16 * W) s) (plane (wideOf m (16 * W) (16 * H)) (movedBytes m (16 * W) (16 * H) s))
+    abbrev pub quad′ : ℕ → List Pt
+    quad′ i = ptsOf (way .quadOfHull (way .hullOfPoints (points′ i)))
+
+    -- "Its hull lists the moved vertices, each once, clockwise (x right, y down) from its own start"
+    unfoldable pub SameHull : ℕ → Type 0
+    SameHull i =
+        Rot (movedRound m w h (hull i)) (hull′ i) × NoDup (hull′ i) × Clockwise (hull′ i) × Starts (hull′ i) (ptsOf (points′ i))
+
+    -- "Where, besides, exactly one pair of a region's hull vertices is farthest apart, and at most one vertex lies farthest out on each
+    -- side of it, its quad is none in both or has the same corners, moved alike, clockwise from some corner." None is the empty list,
+    -- which is no other list turned round; corners are clockwise as a hull's vertices are.
+    unfoldable pub SameQuad : ℕ → Type 0
+    SameQuad i = (a b : Pt) → Far (hull i) a b → OneTop (hull i) a b → OneTop (hull i) b a
+        → Rot (movedRound m w h (quad i)) (quad′ i) × Clockwise (quad′ i)
+
+    pub record Moved : Type 0 where
+      pub thresholds : SameThresholds
+      pub ink : SameInk
+      pub inkCells : SameInkCells
+      pub groups : SameGroups
+      -- "the groups are the moved groups": there are no others
+      pub many : groupsOf p′ w′ h′ ≡ groupsOf p w h
+      -- "As many regions are kept", and of each of them:
+      pub kept : keptCount p′ w′ h′ ≡ keptCount p w h
+      pub regions : (i : ℕ) → i < keptCount p w h → SameRegion i
+      pub boundary : (i : ℕ) → i < keptCount p w h → SamePoints i
+      pub hulls : (i : ℕ) → i < keptCount p w h → SameHull i
+      pub quads : (i : ℕ) → i < keptCount p w h → SameQuad i
+
+-- Every picture taken with sides up to `most`, every move.
+unfoldable pub PicturesMoved : ℕ → Way → Type 0
+PicturesMoved most way =
+    (W H : ℕ) (s : List ℕ) → Taken most W H s → NoTies (plane (16 * W) s) (16 * W) (16 * H) → (m : Move)
+    → Moved m W H (plane (16 * W) s) (plane (wideOf m (16 * W) (16 * H)) (movedBytes m (16 * W) (16 * H) s)) way
 
 -- Demand 3. `PosesMoved` is stated where the eight counts are: for every version, list of as many marks, shift by whole quarters,
 -- reversal, and any of these followed by another.
 pub record Demand3 : Type 0 where
-  pub pictures : PicturesMoved
+  pub pictures : PicturesMoved 1024 inFloats
+  -- "What fitters were told about turned pictures now reaches 4,096 on this path, under the same conditions."
+  pub large : PicturesMoved 4096 inWholes
   pub poses : PosesMoved

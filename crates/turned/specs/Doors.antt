@@ -9,44 +9,18 @@ use lib.Ieee.{Float}
 use lib.ListN.{length, getD}
 use Rattle.laws.specs.Plane.{plane}
 use Rattle.laws.specs.Move.{Move, wideOf, highOf, placeOf, boxOf, movedBytes}
-use Rattle.whole.specs.Points.{Pt, Rot, NoDup, Clockwise, Starts}
-use Rattle.whole.specs.Quad.{Far, OneTop}
-use Rattle.whole.specs.Moves.{often, pointOf, movedRound}
 use Rattle.levels.specs.Level.{cells, inkOf}
 use Rattle.regions.specs.Cells.{cells8}
 use Rattle.regions.specs.declared.answer.Region.{Region}
-use Rattle.hull.specs.Points.{ptsOf, floatsOf}
-use Rattle.hull.specs.Quad.{valuesOf}
-use Rattle.hull.specs.declared.points.Corners.the-variants.{NoQuad}
 use Rattle.outline.specs.Door.{boxAt}
 use Rattle.lcr_core.specs.Version.{IsVersion, positionsOf}
 use Rattle.marks.specs.Pose.{MarkMove, MarksMoved, cornerTo, reversedTo}
-use Rattle.turned.specs.Claims.{Taken, NoTies}
-use Rattle.turned.specs.Calls.{Pictured, regionOf, Outlined, listed, HullCall, countOf, verticesOf, QuadCall, CorrelateCall}
+use Rattle.whole_quad.specs.declared.corners.Corners.the-variants as whole
+use Rattle.turned.specs.Taken.{Taken, NoTies}
+use Rattle.turned.specs.Outlines.{ByFloats, ByWholes}
+use Rattle.turned.specs.Calls.{Pictured, regionOf, Outlined, listed, CorrelateCall}
 
 -- ---- pictures
-
--- Numbers l and l′ that the outline door listed for a region of a picture of w by h and for that of the moved picture; a call of
--- `convex_hull` on each, and a call of `quad` on the vertices that it listed. What the numbers stand for, in doubled coordinates, is as
--- demand 3 has it.
-pub record OutlinesAlike (m : Move) (w h : ℕ) (l l′ : List Float) (k : HullCall l) (k′ : HullCall l′) (q : QuadCall (verticesOf l k))
-    (q′ : QuadCall (verticesOf l′ k′)) : Type 0 where
-  pub points : List (ℕ × ℕ)
-  pub points′ : List (ℕ × ℕ)
-  pub vertices : List (ℕ × ℕ)
-  pub vertices′ : List (ℕ × ℕ)
-  pub corners : List (ℕ × ℕ)
-  pub corners′ : List (ℕ × ℕ)
-  pub stored : (l ≡ floatsOf points) × (l′ ≡ floatsOf points′)
-  pub hulled : (verticesOf l k ≡ floatsOf vertices) × (verticesOf l′ k′ ≡ floatsOf vertices′)
-  pub cornered : (valuesOf (q .answer) ≡ floatsOf corners) × (valuesOf (q′ .answer) ≡ floatsOf corners′)
-  pub boundary : (p : Pt) → often (pointOf m w h p) (ptsOf points′) ≡ often p (ptsOf points)
-  pub count : countOf (k′ .answer) ≡ countOf (k .answer)
-  pub hull : Rot (movedRound m w h (ptsOf vertices)) (ptsOf vertices′) × NoDup (ptsOf vertices′) × Clockwise (ptsOf vertices′)
-      × Starts (ptsOf vertices′) (ptsOf points′)
-  pub quad : (a b : Pt) → Far (ptsOf vertices) a b → OneTop (ptsOf vertices) a b → OneTop (ptsOf vertices) b a
-      → Rot (movedRound m w h (ptsOf corners)) (ptsOf corners′) × Clockwise (ptsOf corners′)
-      × ((q .answer ≡ NoQuad) ↔ (q′ .answer ≡ NoQuad))
 
 -- A picture s of w by h, which are 16 × W and 16 × H, with a call c, and a picture s′ of w′ by h′ with a call c′.
 module _ (m : Move) (W H : ℕ) (s : List ℕ) (c : Pictured s (16 * W) (16 * H)) (s′ : List ℕ)
@@ -76,8 +50,8 @@ module _ (m : Move) (W H : ℕ) (s : List ℕ) (c : Pictured s (16 * W) (16 * H)
     pub box : boxAt (r′ .x0) (r′ .y0) (r′ .x1) (r′ .y1) ≡ boxOf m w h (boxAt (r .x0) (r .y0) (r .x1) (r .y1))
     pub count : r′ .cells ≡ r .cells
 
-  -- All that the picture door left and answered; and, for each region answered, what the outline door, `convex_hull` and `quad` do.
-  pub record DoorsAlike : Type 0 where
+  -- All that the picture door left and answered; and, for each region answered, `alike` of the numbers that the outline door lists.
+  pub record DoorsAlike (alike : List Float → List Float → Type 0) : Type 0 where
     pub thresholds : (x y : ℕ) → x < W → y < H
         → plane (cells w′) (c′ .grid) (placeOf m W H x y .0) (placeOf m W H x y .1) ≡ plane (cells w) (c .grid) x y
     pub ink : (x y : ℕ) → x < w → y < h
@@ -91,16 +65,15 @@ module _ (m : Move) (W H : ℕ) (s : List ℕ) (c : Pictured s (16 * W) (16 * H)
     pub regions : (i : ℕ) → i < c .answer .regions .kept → RegionsAlike (regionOf s w h c i) (regionOf s′ w′ h′ c′ i)
     pub outlines : (i : ℕ) → i < c .answer .regions .kept
         → (o : Outlined s w h c (regionOf s w h c i)) (o′ : Outlined s′ w′ h′ c′ (regionOf s′ w′ h′ c′ i))
-        → (k : HullCall (listed (o .answer) (o .list))) (k′ : HullCall (listed (o′ .answer) (o′ .list)))
-        → (q : QuadCall (verticesOf (listed (o .answer) (o .list)) k)) (q′ : QuadCall (verticesOf (listed (o′ .answer) (o′ .list)) k′))
-        → OutlinesAlike m w h (listed (o .answer) (o .list)) (listed (o′ .answer) (o′ .list)) k k′ q q′
+        → alike (listed (o .answer) (o .list)) (listed (o′ .answer) (o′ .list))
 
--- Every picture taken, every move, every accepted call on either picture.
-unfoldable pub PictureDoorsMoved : Type 0
-PictureDoorsMoved = (W H : ℕ) (s : List ℕ) → Taken W H s → NoTies (plane (16 * W) s) (16 * W) (16 * H) → (m : Move)
+-- Every picture taken with sides up to `most`, every move, every accepted call on either picture.
+unfoldable pub PictureDoorsMoved : ℕ → (Move → ℕ → ℕ → List Float → List Float → Type 0) → Type 0
+PictureDoorsMoved most alike =
+    (W H : ℕ) (s : List ℕ) → Taken most W H s → NoTies (plane (16 * W) s) (16 * W) (16 * H) → (m : Move)
     → (c : Pictured s (16 * W) (16 * H))
     → (c′ : Pictured (movedBytes m (16 * W) (16 * H) s) (wideOf m (16 * W) (16 * H)) (highOf m (16 * W) (16 * H)))
-    → DoorsAlike m W H s c (movedBytes m (16 * W) (16 * H) s) c′
+    → DoorsAlike m W H s c (movedBytes m (16 * W) (16 * H) s) c′ (alike m (16 * W) (16 * H))
 
 -- ---- marks
 
@@ -115,5 +88,6 @@ MarkDoorMoved = (v : ℕ) → IsVersion v → (g : MarkMove) (old new : List Boo
     → countAt (c′ .answer .counts) (cornerTo g r) (reversedTo g reversed) ≡ countAt (c .answer .counts) r reversed
 
 pub record DoorsMoved : Type 0 where
-  pub pictures : PictureDoorsMoved
+  pub pictures : PictureDoorsMoved 1024 ByFloats
+  pub large : PictureDoorsMoved 4096 ByWholes
   pub marks : MarkDoorMoved

@@ -22,8 +22,7 @@ use Rattle.whole.proofs.Sums.{neg-neg}
 use Rattle.whole.proofs.Ord.{pn, p0, nn≡, pp≡, z0, pnn, cmp}
 use Rattle.whole.specs.Points.{Fan, Clockwise, NoDup, Pt, cross, Mem, Rot}
 use Rattle.whole.proofs.Turns.{lin, cyc, rot2, cross-same, cross-l, At, lin-self}
-use Rattle.whole.specs.IsHull.{Side}
-use Rattle.whole.proofs.Edge.{Edge, Ext, pt-dec, ext-of-edge, side-unique, not-between, strict, not-inside, fan}
+use Rattle.whole.proofs.Edge.{Side, Edge, Ext, pt-dec, ext-of-edge, side-unique, not-between, strict, not-inside, fan}
 use Rattle.whole.proofs.Run.{Run}
 
 pub run-mem : (P : List Pt) (a : Pt) (vs : List Pt) (z : Pt) → Run P a vs z → (q : Pt) → Mem q vs → Mem q P

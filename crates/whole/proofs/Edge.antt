@@ -1,6 +1,6 @@
 -- Edges of the hull: every point lies on the right side of a b or between a and b.
 --     d2-dot, d2P, more, bound       distances by dot products
---     side-of, side-unique, not-between, strict, not-inside   what lying on the right side of an edge says
+--     Side, side-first, side-second, side-of, side-unique, not-between, strict, not-inside   what lying on the right side of an edge says
 --     ext-of-edge, fan               the ends of an edge are extreme, and turns about an extreme point are transitive
 -- Assumes nothing.
 use mathlib.Core.Path.{_≡_, refl, sym, _∙_, ap, subst}
@@ -13,7 +13,7 @@ use Rattle.whole.proofs.Sums.{⊕-𝟘, 𝟘-⊕, ⊗-𝟘, 𝟘-⊗, �
 use Rattle.whole.proofs.Ring.{Expr, 𝕧, 𝕜, _:+_, _:-_, _:*_, :n, solve}
 use Rattle.whole.proofs.Ord.{pn, nn+, pn+, np+, nn*, pp*, p0, nn≡, pp≡, z0, p1, above1, pnn, anti, nsplit, cmp, divN, divP}
 use Rattle.whole.specs.Points.{Pt, cross, d2, Mem}
-use Rattle.whole.specs.IsHull.{dot, Side}
+use Rattle.whole.specs.IsHull.{dot}
 use Rattle.whole.proofs.Turns.{
   lin,
   X,
@@ -26,6 +26,7 @@ use Rattle.whole.proofs.Turns.{
   env,
   swap,
   cross-o,
+  cross-same,
   plu,
   tri,
   d2N,
@@ -36,6 +37,19 @@ use Rattle.whole.proofs.Turns.{
   ge-top,
   lin-self,
 }
+
+-- p lies to the right of the way from a to b; or on the line, and then from a to b: not beyond either
+unfoldable pub Side : Pt → Pt → Pt → Type 0
+Side a b p = NN (cross a b p) × (cross a b p ≡ 𝟘 → NN (neg (dot p a b)))
+
+-- the ends of the way lie so
+pub side-first : (a b : Pt) → Side a b a
+unfolding Side dot 𝟘
+side-first a b = (nn≡ z0 (sym (cross-o a b)), λ e. nn≡ z0 (sym (solve (env (a ∷ b ∷ [])) (:n (D 0 0 1)) O refl)))
+
+pub side-second : (a b : Pt) → Side a b b
+unfolding Side dot 𝟘
+side-second a b = (nn≡ z0 (sym (cross-same a b)), λ e. nn≡ z0 (sym (solve (env (a ∷ b ∷ [])) (:n (D 1 0 1)) O refl)))
 
 -- every point lies on the right side of a b or between a and b
 unfoldable pub Edge : List Pt → Pt → Pt → Type 0

@@ -17,8 +17,7 @@ use Rattle.whole.proofs.Ring.{𝕧, _:+_, _:-_, :n, solve}
 use Rattle.whole.proofs.Ord.{pn, nn+, np+, pn+, nn≡, pp≡, z0, nsplit, sub0}
 use Rattle.whole.specs.Points.{Pt, Mem, ptAt, LexLe}
 use Rattle.whole.proofs.Turns.{pt≡, lin, At}
-use Rattle.whole.specs.IsHull.{Side}
-use Rattle.whole.proofs.Edge.{Edge, Ext, side-of, bound, more}
+use Rattle.whole.proofs.Edge.{Side, Edge, Ext, side-of, bound, more}
 use Rattle.whole.specs.Hull.{isNeg, isZero, select, range, lower, least, startOf, nextOf, hull}
 use Rattle.whole.proofs.Select.{select-ok, Sel}
 use Rattle.whole.proofs.Run.{Run, back-start}

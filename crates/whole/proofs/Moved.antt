@@ -16,9 +16,9 @@ use Rattle.whole.proofs.Sums.{neg-neg}
 use Rattle.whole.proofs.Ring.{Expr, 𝕧, _:+_, _:-_, _:*_, :n, solve}
 use Rattle.whole.proofs.Ord.{nn≡}
 use Rattle.whole.specs.Points.{Pt, cross, d2, Mem, Rot, ptAt, NoDup}
-use Rattle.whole.specs.IsHull.{dot, Side}
+use Rattle.whole.specs.IsHull.{dot}
 use Rattle.whole.proofs.Turns.{X, Y, C, D, env, rot2, d2-0, d2-self}
-use Rattle.whole.proofs.Edge.{Edge, Ext, ext-of-edge, d2-dot}
+use Rattle.whole.proofs.Edge.{Side, Edge, Ext, ext-of-edge, d2-dot}
 use Rattle.whole.proofs.Run.{Run}
 use Rattle.whole.proofs.Closed.{closed-unique, run-fan, fan-nodup}
 use Rattle.whole.specs.Hull.{hull, startOf, walk}

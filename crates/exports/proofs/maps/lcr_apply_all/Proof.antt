@@ -5,7 +5,7 @@ use lib.Dec.{ltb}
 use lib.ListN.{length}
 use borrow.Author.Tests.{lt-ltb, le-ltb}
 use denote.Ref.{now}
-use Rattle.hull.specs.Points.{laid}
+use Rattle.laws.specs.Lent.{laid}
 use Rattle.transform.specs.declared.Transform.{Transform}
 use Rattle.numbers_out.specs.Maps.{pixelsOf}
 use borrow.Author.Needs.{needs}

@@ -1,6 +1,6 @@
 -- `ring::refusals::check_points` meets its contract: each way out is one line of the table, after the lines that passed. Assumes nothing.
 use borrow.Author.Needs.{needs}
-use Rattle.ring.proofs.Passing.{told-true, told-false}
+use Rattle.laws.proofs.Bools.{told-true, told-false}
 use Rattle.ring.proofs.refusals.check_points.Statement.{statement}
 use Rattle.ring.proofs.refusals.check_points.Tie as tie
 

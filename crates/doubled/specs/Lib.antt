@@ -1,0 +1,5 @@
+pub mod Points
+pub mod Outline
+pub mod Checks
+pub mod Doubled
+pub mod Claims

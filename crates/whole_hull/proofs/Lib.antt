@@ -1,0 +1,10 @@
+pub mod Turns
+pub mod Chains
+pub mod Ways
+pub mod Numbered
+pub mod Rounds
+pub mod Closed
+pub mod Stores
+pub mod Spans
+pub mod Halves
+pub mod Answers

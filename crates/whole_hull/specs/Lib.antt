@@ -1,0 +1,3 @@
+pub mod Door
+pub mod Chain
+pub mod Steps

@@ -1,0 +1,41 @@
+-- What the loops of the quad hold on their way: values by the numbers of a list. A turn is the difference of two sums of products, so that
+-- no number is below 0. Definitions only. Assumes nothing.
+use mathlib.Core.Bool.{true, false}
+use mathlib.Core.List.{List}
+use Prim.Native.Nat.{ℕ, _+_, _-_, _*_}
+use lib.Dec.{ltb}
+use Rattle.whole.specs.Hull.{range}
+use Rattle.whole.specs.Wrap.{keep}
+use Rattle.hull.specs.Points.{many}
+use Rattle.doubled.specs.Points.{xAt, yAt}
+
+-- The turn from point o over a to b is the first of these less the second.
+unfoldable pub turnL : List ℕ → ℕ → ℕ → ℕ → ℕ
+turnL p o a b = xAt p a * yAt p b + xAt p b * yAt p o + xAt p o * yAt p a
+
+unfoldable pub turnR : List ℕ → ℕ → ℕ → ℕ → ℕ
+turnR p o a b = yAt p a * xAt p b + yAt p b * xAt p o + yAt p o * xAt p a
+
+-- How far point i lies out on the right of the way from a to b; 0 on the way and on its left.
+unfoldable pub outAt : List ℕ → ℕ → ℕ → ℕ → ℕ
+outAt p a b i = turnL p a b i - turnR p a b i
+
+-- The difference of two numbers.
+unfoldable pub gap : ℕ → ℕ → ℕ
+gap a b = (a - b) + (b - a)
+
+-- The squared distance of points a and b.
+unfoldable pub d2At : List ℕ → ℕ → ℕ → ℕ
+d2At p a b = gap (xAt p a) (xAt p b) * gap (xAt p a) (xAt p b) + gap (yAt p a) (yAt p b) * gap (yAt p a) (yAt p b)
+
+-- One more than that of a pair: 0 is below every distance.
+unfoldable pub apart : List ℕ → ℕ × ℕ → ℕ
+apart p q = d2At p (q .0) (q .1) + 1
+
+-- One step of a fold that keeps the first of the greatest.
+unfoldable pub kept1 : {T : Type 0} → (T → ℕ) → T → ℕ → T → T × ℕ
+kept1 g x u y = elim (ltb u (g y)) [ true ↦ (y, g y) | false ↦ (x, u) ]
+
+-- The point farthest out on the right of the way from a to b, with how far; a point st with 0 where there is none.
+unfoldable pub mostOf : List ℕ → ℕ → ℕ → ℕ → ℕ × ℕ
+mostOf p a b st = keep ltb (outAt p a b) st 0 (range 0 (many p))
