@@ -14,6 +14,7 @@ ghost use Rattle.doubled.specs.Doubled.{twiceOf, twices, checkDoubled, d
 use checks::is_points;
 
 pub mod claims;
+pub mod coordinates;
 pub mod refusals;
 
 // Twice x as a whole number from 0 to 8,192, or 8,193 where it is none.

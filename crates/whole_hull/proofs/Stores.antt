@@ -71,10 +71,11 @@ module _ (A : ℕ → ℕ) (e : ℕ) (f : Full A e) (s : List ℕ) (m : ℕ) (mo
   unfolding stackOf
   one = let z : m - 1 ≡ suc (m - 2) = omega arith in ap (stackOf s) z
 
-  pub kept-full : Ready A e (stackOf s m) → Full A (getD s (m - 2) 0) × Full A (getD s (m - 1) 0)
+  pub kept-full : Ready A e (stackOf s m)
+      → Full A (getD s (m - 2) 0) × Full A (getD s (m - 1) 0) × (getD s (m - 2) 0 < getD s (m - 1) 0) × (getD s (m - 1) 0 < e)
   kept-full r =
       let q = subst (Ready A e) two r in
-      (links-head A e (getD s (m - 2) 0) (stackOf s (m - 2)) (q .0 .4), q .0 .0)
+      (links-head A e (getD s (m - 2) 0) (stackOf s (m - 2)) (q .0 .4), q .0 .0, q .0 .2, q .0 .1)
 
   pub kept-pop : Ready A e (stackOf s m) → sumL A (getD s (m - 2) 0) (getD s (m - 1) 0) e ≤ sumR A (getD s (m - 2) 0) (getD s (m - 1) 0) e
       → Ready A e (stackOf s (m - 1))

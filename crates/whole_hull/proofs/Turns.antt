@@ -3,10 +3,12 @@
 --     under-near, under-far              a popped vertex lies below the new edge, and so does what was below it
 --     behind, before                     what lies before the new edge, and the new point seen from earlier edges
 --     between                            a point on an edge
+--     behind-sums                        the test of a turn by two products
 -- Assumes nothing.
 use mathlib.Core.Path.{_≡_, refl, sym, ap, _∙_}
 use mathlib.Core.List.{[], _∷_}
-use Prim.Native.Nat.{ℕ, suc, _-_, _≤_, _<_}
+use Prim.Native.Nat.{ℕ, suc, _+_, _-_, _*_, _≤_, _<_}
+use native.Mathlib.Nat.{add-mul, mul-add}
 use native.Mathlib.Omega.{arith}
 use lib.IntN.{ℤ, pos}
 use Rattle.whole.specs.Numbers.{_⊕_, _⊗_, neg, 𝟘, NN, nn, PP, pp}
@@ -16,6 +18,7 @@ use Rattle.whole.proofs.Ring.{_:+_, _:-_, _:*_, :n, solve}
 use Rattle.whole.proofs.Ord.{pn, nn+, np+, pn+, nn*, pp*, nn≡, pp≡, divN, divP}
 use Rattle.whole.specs.IsHull.{dot}
 use Rattle.whole.proofs.Turns.{X, Y, C, D, S, env, d2N}
+use Rattle.whole_hull.specs.Chain.{sumL, sumR}
 
 pub nn-sub : (a b : ℕ) → b ≤ a → NN (pos a ⊕ neg (pos b))
 nn-sub a b l = nn≡ (nn (a - b)) (sub-nat a b l)
@@ -82,3 +85,29 @@ between u c p h a b e =
   where
     drop0 : (g e h : ℤ) → e ≡ 𝟘 → g ⊕ e ⊗ h ≡ g
     drop0 g e h q = ap (λ t. g ⊕ t ⊗ h) q ∙ ap (λ t. g ⊕ t) (𝟘-⊗ h) ∙ ⊕-𝟘 g
+
+-- ---- the test of `behind`: products of differences compare as the sums of products do
+module _ (u c w yu yc yw l r : ℕ) (huc : u < c) (hcw : c < w) (hu : yu ≤ 8192) (el : l ≡ (yw + 8192 - yu) * (c - u))
+    (er : r ≡ (yc + 8192 - yu) * (w - u)) where
+  -- a difference counted from 8,192, and a difference of places, multiplied out
+  out : (y k : ℕ) → (y + 8192 - yu) * k + yu * k ≡ y * k + 8192 * k
+  out y k =
+      let e : y + 8192 - yu + yu ≡ y + 8192 = omega arith in
+      sym (add-mul (y + 8192 - yu) yu k) ∙ ap (λ (m : ℕ). m * k) e ∙ add-mul y 8192 k
+
+  places : (y v : ℕ) → u ≤ v → y * (v - u) + y * u ≡ y * v
+  places y v h = let e : v - u + u ≡ v = omega arith in sym (mul-add y (v - u) u) ∙ ap (λ (m : ℕ). y * m) e
+
+  behind-nat : l + 8192 * (w - c) + (yc * w + yw * u + yu * c) ≡ r + (c * yw + w * yu + u * yc)
+  behind-nat =
+      let a₁ = out yw (c - u) in
+      let a₂ = places yw c (omega arith) in
+      let a₃ = places yu c (omega arith) in
+      let b₁ = out yc (w - u) in
+      let b₂ = places yc w (omega arith) in
+      let b₃ = places yu w (omega arith) in
+      omega (arith, el, er, a₁, a₂, a₃, b₁, b₂, b₃)
+
+  pub behind-sums : (A : ℕ → ℕ) → yu ≡ A u → yc ≡ A c → yw ≡ A w → l + 8192 * (w - c) + sumR A u c w ≡ r + sumL A u c w
+  unfolding sumL sumR
+  behind-sums A eu ec ew = rw (sym eu, sym ec, sym ew) behind-nat

@@ -1,8 +1,9 @@
 // The vertices above, from the least x to the greatest: a stack of places, of which those go that
 // the point at a new place leaves behind.
+use doubled::coordinates::product;
 ghost use mathlib.Core.Path.{_≡_};
 ghost use mathlib.Core.Bool.{true, false};
-ghost use Prim.Native.Nat.{_+_, _*_, _<_, _≤_};
+ghost use Prim.Native.Nat.{_+_, _<_, _≤_};
 ghost use lib.ListN.{length};
 ghost use Rattle.whole_hull.specs.Chain.{
   Full,
@@ -15,14 +16,6 @@ ghost use Rattle.whole_hull.specs.Chain.{
   stackOf,
   Inside,
 };
-
-// The product of two coordinates.
-fn product(x: u32, y: u32) -> u32
-    requires { ⌜ (x ≤ 8192) × (y ≤ 8192) ⌝ }
-    ensures { λ r. ⌜ (r ≡ x * y) × (r ≤ 67108864) ⌝ }
-{
-    x * y
-}
 
 // The least y at place x.
 fn y_of(a: &[u16], x: u32) -> u32
@@ -41,6 +34,7 @@ fn behind(a: &[u16], u: u32, c: u32, w: u32) -> bool
     requires { ⌜ Full (at (now a)) u ⌝ }
     requires { ⌜ Full (at (now a)) c ⌝ }
     requires { ⌜ Full (at (now a)) w ⌝ }
+    requires { ⌜ (u < c) × (c < w) ⌝ }
     ensures { λ r. ⌜
         (r ≡ true → sumL (at (now (a .entry))) u c w ≤ sumR (at (now (a .entry))) u c w)
         × (r ≡ false → sumR (at (now (a .entry))) u c w < sumL (at (now (a .entry))) u c w) ⌝ }
@@ -48,8 +42,8 @@ fn behind(a: &[u16], u: u32, c: u32, w: u32) -> bool
     let yu = y_of(a, u);
     let yc = y_of(a, c);
     let yw = y_of(a, w);
-    let l = product(c, yw) + product(w, yu) + product(u, yc);
-    let r = product(yc, w) + product(yw, u) + product(yu, c);
+    let l = product(yw + 8192 - yu, c - u) + 8192 * (w - c);
+    let r = product(yc + 8192 - yu, w - u);
     if r < l {
         return false;
     }

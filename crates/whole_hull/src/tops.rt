@@ -1,29 +1,14 @@
 // The outermost places of points on the x axis, and the least y at each place.
+use doubled::coordinates::x_at;
+use doubled::coordinates::y_at;
 ghost use mathlib.Core.Path.{_≡_};
 ghost use mathlib.Core.Bool.{true, false};
 ghost use Prim.Native.Nat.{_<_, _≤_};
 ghost use lib.ListN.{length};
 ghost use Rattle.hull.specs.Points.{many};
-ghost use Rattle.doubled.specs.Points.{xAt, yAt, Bounded};
+ghost use Rattle.doubled.specs.Points.{Bounded};
 ghost use Rattle.whole_hull.specs.Chain.{seen as Seen, Tops, Spans};
 ghost use Rattle.whole_hull.specs.Steps.{lowered};
-
-// The coordinates of point i.
-fn x_at(p: &[u32], i: usize) -> u32
-    requires { ⌜ i < many (now p) ⌝ }
-    requires { ⌜ Bounded (now p) ⌝ }
-    ensures { λ r. ⌜ (r ≡ xAt (now (p .entry)) i) × (r ≤ 8192) ⌝ }
-{
-    p[2 * i]
-}
-
-fn y_at(p: &[u32], i: usize) -> u32
-    requires { ⌜ i < many (now p) ⌝ }
-    requires { ⌜ Bounded (now p) ⌝ }
-    ensures { λ r. ⌜ (r ≡ yAt (now (p .entry)) i) × (r ≤ 8192) ⌝ }
-{
-    p[2 * i + 1]
-}
 
 // The least and the greatest of some x.
 pub struct Span {

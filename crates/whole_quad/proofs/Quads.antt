@@ -1,79 +1,33 @@
 -- The quad by the folds that the code makes.
---     keep-value, keep-clip              what a fold keeps, and a fold that keeps no number below 0
---     over-is, under-is, pair-is         the two sides and the farthest pair
+--     over-is, under-is, pair-is                    the two sides and the farthest pair
 --     quad-few, quad-over, quad-under, quad-found   the quad from what the folds found
 -- Assumes nothing.
-use mathlib.Core.Path.{_≡_, refl, sym, ap, ap₂, _∙_, subst}
-use mathlib.Core.Logic.{_⊎_, inl, inr}
+use mathlib.Core.Path.{_≡_, refl, sym, ap, ap₂, _∙_}
 use mathlib.Core.Bool.{Bool, true, false, _&&_}
 use mathlib.Core.List.{List, [], _∷_, map}
 use Prim.Native.Nat.{ℕ, zero, suc, _+_, _-_, _*_, _≤_, _<_}
 use native.Mathlib.Omega.{arith}
 use lib.Dec.{ltb}
 use lib.ListN.{length, getD}
-use lib.IntN.{ℤ, pos, negsuc}
-use borrow.Author.Tests.{lt-ltb, le-ltb, ltb-true, ltb-false}
+use lib.IntN.{ℤ, pos}
+use borrow.Author.Tests.{lt-ltb, le-ltb}
 use Rattle.whole.specs.Numbers.{_⊕_, neg, 𝟘, 𝟙}
 use Rattle.whole.specs.Points.{Pt, cross, d2, ptAt}
 use Rattle.whole.specs.Hull.{isNeg, range}
 use Rattle.whole.specs.Quad.{lace, area}
 use Rattle.whole.specs.Wrap.{keep, ipairs, fars, ends, iquad, wholeOps, lessZ}
-use Rattle.whole.proofs.Sums.{𝟘-⊕, ⊕-𝟘, neg-neg}
+use Rattle.whole.proofs.Sums.{𝟘-⊕}
 use Rattle.whole.proofs.Ring.{Expr, 𝕧, _:+_, _:-_, _:*_, :n, solve}
 use Rattle.whole.proofs.Turns.{X, Y, C, env, rot2}
 use Rattle.whole.proofs.Indexed.{keep-cong}
 use Rattle.hull.specs.Points.{many, ptsOf}
-use Rattle.doubled.specs.Points.{pairsOf, xAt, yAt}
+use Rattle.doubled.specs.Points.{pairsOf, xAt, yAt, Bounded}
 use Rattle.doubled.specs.Outline.{quadWhole}
 use Rattle.doubled.proofs.Points.{length-pairs, pair-any}
-use Rattle.whole_quad.specs.Steps.{turnL, turnR, outAt, d2At, apart, mostOf}
-use Rattle.whole_quad.proofs.Numbers.{less-nat, sub-pos, sub-neg}
-use Rattle.whole_quad.proofs.Turns.{cross-any, dist-any}
-
--- ---- folds
--- a fold that begins with a value keeps a value
-keep-value : {T : Type 0} (g : T → ℕ) (x : T) (u : ℕ) (ys : List T) → u ≡ g x → keep ltb g x u ys .1 ≡ g (keep ltb g x u ys .0)
-unfolding keep
-keep-value g x u [] e = e
-keep-value {T} g x u (y ∷ ys) e = go (ltb u (g y)) (keep-value g y (g y) ys refl) (keep-value g x u ys e)
-  where
-    go : (b : Bool) → keep ltb g y (g y) ys .1 ≡ g (keep ltb g y (g y) ys .0) → keep ltb g x u ys .1 ≡ g (keep ltb g x u ys .0)
-        → (elim b as (λ _. T × ℕ) [ true ↦ keep ltb g y (g y) ys | false ↦ keep ltb g x u ys ]) .1
-        ≡ g ((elim b as (λ _. T × ℕ) [ true ↦ keep ltb g y (g y) ys | false ↦ keep ltb g x u ys ]) .0)
-    go true p q = p
-    go false p q = q
-
--- z as a number from 0 on: itself, or 0 where it is below 0
-abbrev Clip : ℤ → ℕ → Type 0
-Clip z n = (z ≡ pos n) ⊎ ((k : ℕ) × (z ≡ negsuc k) × (n ≡ 0))
-
-clip-less : (u : ℕ) (z : ℤ) (n : ℕ) → Clip z n → lessZ (pos u) z ≡ ltb u n
-clip-less u z n (inl e) = ap (λ (t : ℤ). lessZ (pos u) t) e ∙ less-nat u n
-clip-less u z n (inr q) = ap (λ (t : ℤ). lessZ (pos u) t) (q .1) ∙ unfold _⊕_ neg in refl ∙ sym (le-ltb u n (omega (arith, q .2)))
-
-clip-is : (u : ℕ) (z : ℤ) (n : ℕ) → Clip z n → ltb u n ≡ true → z ≡ pos n
-clip-is u z n (inl e) l = e
-clip-is u z n (inr q) l = absurd (omega (arith, q .2, ltb-true u n l))
-
-keep-clip : {T : Type 0} (g : T → ℤ) (g′ : T → ℕ) → ((y : T) → Clip (g y) (g′ y)) → (x : T) (u : ℕ) (ys : List T)
-    → keep lessZ g x (pos u) ys ≡ (keep ltb g′ x u ys .0, pos (keep ltb g′ x u ys .1))
-unfolding keep
-keep-clip g g′ clip x u [] = refl
-keep-clip {T} g g′ clip x u (y ∷ ys) =
-    go (lessZ (pos u) (g y)) (ltb u (g′ y)) (clip-less u (g y) (g′ y) (clip y)) refl (keep-clip g g′ clip y (g′ y) ys)
-    (keep-clip g g′ clip x u ys)
-  where
-    go : (a b : Bool) → a ≡ b → ltb u (g′ y) ≡ b
-        → keep lessZ g y (pos (g′ y)) ys ≡ (keep ltb g′ y (g′ y) ys .0, pos (keep ltb g′ y (g′ y) ys .1))
-        → keep lessZ g x (pos u) ys ≡ (keep ltb g′ x u ys .0, pos (keep ltb g′ x u ys .1))
-        → _≡_ {A = T × ℤ} (elim a as (λ _. T × ℤ) [ true ↦ keep lessZ g y (g y) ys | false ↦ keep lessZ g x (pos u) ys ]) (
-          (elim b as (λ _. T × ℕ) [ true ↦ keep ltb g′ y (g′ y) ys | false ↦ keep ltb g′ x u ys ]) .0,
-          pos ((elim b as (λ _. T × ℕ) [ true ↦ keep ltb g′ y (g′ y) ys | false ↦ keep ltb g′ x u ys ]) .1),
-        )
-    go true true e l p q = ap (λ (z : ℤ). keep lessZ g y z ys) (clip-is u (g y) (g′ y) (clip y) l) ∙ p
-    go true false e l p q = absurd (mathlib.Core.Bool.true≢false e)
-    go false true e l p q = absurd (mathlib.Core.Bool.false≢true e)
-    go false false e l p q = q
+use Rattle.whole_quad.specs.Steps.{turnL, turnR, sideAt, d2At, apart, mostOf}
+use Rattle.whole_quad.proofs.Numbers.{less-nat, sub-pos}
+use Rattle.whole_quad.proofs.Turns.{side-any, dist-any}
+use Rattle.whole_quad.proofs.Pairs.{keep-value}
 
 -- ---- identities
 area-is : (a c b d : Pt) → area a c b d ≡ neg (cross a b c ⊕ cross b a d)
@@ -83,8 +37,12 @@ area-is a c b d = solve (env (a ∷ c ∷ b ∷ d ∷ [])) (W 0 1 :+ W 1 2 :+ W 
     W : ℕ → ℕ → Expr
     W p r = X p :* Y r :- X r :* Y p
 
-differ : (u s : ℤ) → (u ⊕ neg 𝟙) ⊕ neg (s ⊕ neg 𝟙) ≡ u ⊕ neg s
-differ u s = solve (u ∷ s ∷ 𝟙 ∷ []) ((𝕧 0 :- 𝕧 2) :- (𝕧 1 :- 𝕧 2)) (𝕧 0 :- 𝕧 1) refl
+-- two numbers that are counted from c compare as they do
+differ : (c u s : ℤ) → (u ⊕ neg c) ⊕ neg (s ⊕ neg c) ≡ u ⊕ neg s
+differ c u s = solve (u ∷ s ∷ c ∷ []) ((𝕧 0 :- 𝕧 2) :- (𝕧 1 :- 𝕧 2)) (𝕧 0 :- 𝕧 1) refl
+
+less-from : (c u s : ℤ) (u′ s′ : ℕ) → u ≡ pos u′ ⊕ neg c → s ≡ pos s′ ⊕ neg c → lessZ u s ≡ ltb u′ s′
+less-from c u s u′ s′ h k = ap isNeg (ap₂ (λ (x y : ℤ). x ⊕ neg y) h k ∙ differ c (pos u′) (pos s′)) ∙ less-nat u′ s′
 
 turned : (u s : ℤ) → s ⊕ neg u ≡ neg u ⊕ neg (neg s)
 turned u s = solve (u ∷ s ∷ []) (𝕧 1 :- 𝕧 0) (:n (𝕧 0) :- :n (𝕧 1)) refl
@@ -98,58 +56,51 @@ unfolding _⊕_ neg
 minus zero y h = absurd (omega arith)
 minus (suc x) y h = let z : suc x + y ≡ suc (x + y) = omega arith in ap (λ (k : ℕ). isNeg (neg (pos k))) z
 
--- a difference, and how much of it is above 0
-clip-of : (l r : ℕ) → Clip (pos l ⊕ neg (pos r)) (l - r)
-clip-of l r = go (ltb l r) refl
-  where
-    go : (t : Bool) → ltb l r ≡ t → Clip (pos l ⊕ neg (pos r)) (l - r)
-    go true e = let h = ltb-true l r e in inr (r - suc l, sub-neg l r h, omega arith)
-    go false e = inl (sub-pos l r (ltb-false l r e))
+-- a point of the way itself
+side-self : (p : List ℕ) (a b : ℕ) → 268435456 ≡ sideAt p a b a
+unfolding sideAt turnL turnR
+side-self p a b = omega arith
 
-pub out-self : (p : List ℕ) (a b : ℕ) → 0 ≡ outAt p a b a
-unfolding outAt turnL turnR
-out-self p a b = omega arith
+side-other : (p : List ℕ) (a b : ℕ) → 268435456 ≡ sideAt p b a a
+unfolding sideAt turnL turnR
+side-other p a b = omega arith
 
-pub out-other : (p : List ℕ) (a b : ℕ) → 0 ≡ outAt p b a a
-unfolding outAt turnL turnR
-out-other p a b = omega arith
-
-module _ (p : List ℕ) (even : length p ≡ 2 * many p) where
+module _ (p : List ℕ) (even : length p ≡ 2 * many p) (bounded : Bounded p) where
   abbrev P : List Pt
   P = ptsOf (pairsOf p)
 
   abbrev n : ℕ
   n = many p
 
-  out-clip : (a b i : ℕ) → Clip (cross (ptAt P a) (ptAt P b) (ptAt P i)) (outAt p a b i)
-  unfolding outAt
-  out-clip a b i = subst (λ (z : ℤ). Clip z (turnL p a b i - turnR p a b i)) (sym (cross-any p even a b i))
-      (clip-of (turnL p a b i) (turnR p a b i))
-
-  -- the right side
-  over-is : (a b : ℕ)
-      → keep lessZ (λ i. cross (ptAt P a) (ptAt P b) (ptAt P i)) a 𝟘 (range 0 n) ≡ (mostOf p a b a .0, pos (mostOf p a b a .1))
-  unfolding 𝟘 mostOf
-  over-is a b = keep-clip (λ i. cross (ptAt P a) (ptAt P b) (ptAt P i)) (outAt p a b) (out-clip a b) a 0 (range 0 n)
-
-  -- the left side: the right one of the way back
-  back-clip : (a b i : ℕ) → Clip (neg (cross (ptAt P a) (ptAt P b) (ptAt P i))) (outAt p b a i)
-  back-clip a b i = subst (λ (z : ℤ). Clip z (outAt p b a i)) (rot2 (ptAt P a) (ptAt P b) (ptAt P i)) (out-clip b a i)
-
+  -- the right side, and the left one: the right one of the way back
   abbrev side : ℕ → ℕ → ℕ → ℤ
   side a b i = cross (ptAt P a) (ptAt P b) (ptAt P i)
 
-  under-is : (a b : ℕ)
-      → (keep (λ u s. lessZ s u) (side a b) a 𝟘 (range 0 n) .0 ≡ mostOf p b a a .0)
-      × (pos (mostOf p b a a .1) ≡ neg (keep (λ u s. lessZ s u) (side a b) a 𝟘 (range 0 n) .1))
+  abbrev From : ℤ → ℕ → Type 0
+  From z u = z ≡ pos u ⊕ neg (pos 268435456)
+
+  level : From 𝟘 268435456
+  unfolding 𝟘
+  level = sym (sub-pos 268435456 268435456 (omega arith))
+
+  over-is : (a b : ℕ)
+      → (keep lessZ (side a b) a 𝟘 (range 0 n) .0 ≡ mostOf p a b a .0) × From (keep lessZ (side a b) a 𝟘 (range 0 n) .1) (mostOf p a b a .1)
+  unfolding mostOf
+  over-is a b =
+      keep-cong From lessZ ltb (side a b) (sideAt p a b) (λ u s u′ s′ h k. less-from (pos 268435456) u s u′ s′ h k) a 𝟘 268435456 (range 0 n)
+      level (λ i m. side-any p even bounded a b i)
+
+  less-back : (u s : ℤ) (u′ s′ : ℕ) → From (neg u) u′ → From (neg s) s′ → lessZ s u ≡ ltb u′ s′
+  less-back u s u′ s′ h k = ap isNeg (turned u s) ∙ less-from (pos 268435456) (neg u) (neg s) u′ s′ h k
+
+  abbrev most-left : ℕ → ℕ → ℕ × ℤ
+  most-left a b = keep (λ u s. lessZ s u) (side a b) a 𝟘 (range 0 n)
+
+  under-is : (a b : ℕ) → (most-left a b .0 ≡ mostOf p b a a .0) × From (neg (most-left a b .1)) (mostOf p b a a .1)
   unfolding mostOf
   under-is a b =
-      let k = keep-cong (λ u u′. u′ ≡ neg u) (λ u s. lessZ s u) lessZ (side a b) (λ i. neg (side a b i))
-      (λ u s u′ s′ h k. ap isNeg (turned u s ∙ ap₂ (λ (x y : ℤ). x ⊕ neg y) (sym h) (sym k))) a 𝟘 𝟘 (range 0 n) (sym none) (λ i m. refl) in
-      let e : keep lessZ (λ i. neg (side a b i)) a 𝟘 (range 0 n)
-      ≡ (keep ltb (outAt p b a) a 0 (range 0 n) .0, pos (keep ltb (outAt p b a) a 0 (range 0 n) .1)) =
-      unfold 𝟘 in keep-clip (λ i. neg (side a b i)) (outAt p b a) (back-clip a b) a 0 (range 0 n) in
-      (k .0 ∙ ap (λ (q : ℕ × ℤ). q .0) e, sym (ap (λ (q : ℕ × ℤ). q .1) e) ∙ k .1)
+      keep-cong (λ u u′. From (neg u) u′) (λ u s. lessZ s u) ltb (side a b) (sideAt p b a) less-back a 𝟘 268435456 (range 0 n) (none ∙ level)
+      (λ i m. sym (rot2 (ptAt P a) (ptAt P b) (ptAt P i)) ∙ side-any p even bounded b a i)
 
   -- the farthest pair
   less-far : (d : ℕ) → pos d ≡ pos (d + 1) ⊕ neg 𝟙
@@ -160,7 +111,7 @@ module _ (p : List ℕ) (even : length p ≡ 2 * many p) where
   unfolding fars wholeOps
   pair-is =
       sym (keep-cong (λ (z : ℤ) (u : ℕ). z ≡ pos u ⊕ neg 𝟙) lessZ ltb (λ q. d2 (ptAt P (q .0)) (ptAt P (q .1))) (apart p)
-      (λ u s u′ s′ h k. ap isNeg (ap₂ (λ (x y : ℤ). x ⊕ neg y) h k ∙ differ (pos u′) (pos s′)) ∙ less-nat u′ s′) (0, 0) (neg 𝟙) 0
+      (λ u s u′ s′ h k. less-from 𝟙 u s u′ s′ h k) (0, 0) (neg 𝟙) 0
       (ipairs 0 n) (sym (unfold 𝟘 in 𝟘-⊕ (neg 𝟙)))
       (λ q m. unfold apart in dist-any p even (q .0) (q .1) ∙ less-far (d2At p (q .0) (q .1))) .0)
 
@@ -196,36 +147,34 @@ module _ (p : List ℕ) (even : length p ≡ 2 * many p) where
     kc = keep lessZ (side a b) a 𝟘 (range 0 n)
 
     abbrev ke : ℕ × ℤ
-    ke = keep (λ u s. lessZ s u) (side a b) a 𝟘 (range 0 n)
+    ke = most-left a b
 
-    kc-is : kc ≡ (c, pos u)
-    kc-is = over-is a b ∙ ap (λ (q : ℕ × ℕ). (q .0, pos (q .1))) (sym ec)
+    kc-at : kc .0 ≡ c
+    kc-at = over-is a b .0 ∙ ap (λ (q : ℕ × ℕ). q .0) (sym ec)
 
     ke-at : ke .0 ≡ d
     ke-at = under-is a b .0 ∙ ap (λ (q : ℕ × ℕ). q .0) (sym ed)
 
-    ke-value : ke .1 ≡ neg (pos w)
-    ke-value = sym (neg-neg (ke .1)) ∙ ap neg (sym (under-is a b .1) ∙ ap (λ (q : ℕ × ℕ). pos (q .1)) (sym ed))
+    above : lessZ 𝟘 (kc .1) ≡ ltb 268435456 u
+    above =
+        less-from (pos 268435456) 𝟘 (kc .1) 268435456 (mostOf p a b a .1) level (over-is a b .1)
+        ∙ ap (λ (q : ℕ × ℕ). ltb 268435456 (q .1)) (sym ec)
 
-    above : lessZ 𝟘 (pos u) ≡ ltb 0 u
-    above = unfold 𝟘 in less-nat 0 u
+    below : lessZ (ke .1) 𝟘 ≡ ltb 268435456 w
+    below =
+        less-back 𝟘 (ke .1) 268435456 (mostOf p b a a .1) (none ∙ level) (under-is a b .1)
+        ∙ ap (λ (q : ℕ × ℕ). ltb 268435456 (q .1)) (sym ed)
 
-    below : lessZ (neg (pos w)) 𝟘 ≡ ltb 0 w
-    below = ap isNeg (ap (λ (t : ℤ). neg (pos w) ⊕ t) none ∙ ⊕-𝟘 (neg (pos w)) ∙ sym (𝟘-⊕ (neg (pos w)))) ∙ unfold 𝟘 in less-nat 0 w
-
-    ends-are : (x y z : Bool) → ltb 0 u ≡ x → ltb 0 w ≡ y → isNeg (area (ptAt P a) (ptAt P c) (ptAt P b) (ptAt P d)) ≡ z
-        → ends (wholeOps P) n a b ≡ shape x y z c d
+    ends-are : (x y z : Bool) → ltb 268435456 u ≡ x → ltb 268435456 w ≡ y
+        → isNeg (area (ptAt P a) (ptAt P c) (ptAt P b) (ptAt P d)) ≡ z → ends (wholeOps P) n a b ≡ shape x y z c d
     unfolding ends wholeOps
     ends-are x y z ex ey ez =
-        ap (λ (q : ℕ × ℤ). shape (lessZ 𝟘 (q .1)) (lessZ (ke .1) 𝟘) (isNeg (area (ptAt P a) (ptAt P (q .0)) (ptAt P b) (ptAt P (ke .0))))
-        (q .0) (ke .0)) kc-is
-        ∙ ap (λ (t : ℤ). shape (lessZ 𝟘 (pos u)) (lessZ t 𝟘) (isNeg (area (ptAt P a) (ptAt P c) (ptAt P b) (ptAt P (ke .0))))
-        c (ke .0)) ke-value
-        ∙ ap (λ (t : ℕ). shape (lessZ 𝟘 (pos u)) (lessZ (neg (pos w)) 𝟘) (isNeg (area (ptAt P a) (ptAt P c) (ptAt P b) (ptAt P t)))
-        c t) ke-at
-        ∙ rw (above ∙ ex, below ∙ ey, ez)
+        ap₂ (λ (s t : Bool). shape s t (isNeg (area (ptAt P a) (ptAt P (kc .0)) (ptAt P b) (ptAt P (ke .0)))) (kc .0) (ke .0))
+        (above ∙ ex) (below ∙ ey)
+        ∙ ap₂ (λ (s t : ℕ). shape x y (isNeg (area (ptAt P a) (ptAt P s) (ptAt P b) (ptAt P t))) s t) kc-at ke-at
+        ∙ ap (λ (t : Bool). shape x y t c d) ez
 
-    quad-is : (x y z : Bool) → ltb 0 u ≡ x → ltb 0 w ≡ y → isNeg (area (ptAt P a) (ptAt P c) (ptAt P b) (ptAt P d)) ≡ z
+    quad-is : (x y z : Bool) → ltb 268435456 u ≡ x → ltb 268435456 w ≡ y → isNeg (area (ptAt P a) (ptAt P c) (ptAt P b) (ptAt P d)) ≡ z
         → quadWhole (pairsOf p) ≡ map point (shape x y z c d)
     quad-is x y z ex ey ez =
         quad-by (shape x y z c d) (unfold iquad in
@@ -234,31 +183,37 @@ module _ (p : List ℕ) (even : length p ≡ 2 * many p) where
         ∙ ap (λ (q : ℕ × ℕ). ends (wholeOps P) n (q .0) (q .1)) (sym (ap (λ (q : (ℕ × ℕ) × ℕ). q .0) e ∙ pair-is))
         ∙ ends-are x y z ex ey ez)
 
-    pub quad-over : u ≤ 0 → quadWhole (pairsOf p) ≡ []
-    quad-over l = quad-is false (ltb 0 w) (isNeg (area (ptAt P a) (ptAt P c) (ptAt P b) (ptAt P d))) (le-ltb 0 u l) refl refl
+    pub quad-over : u ≤ 268435456 → quadWhole (pairsOf p) ≡ []
+    quad-over l =
+        quad-is false (ltb 268435456 w) (isNeg (area (ptAt P a) (ptAt P c) (ptAt P b) (ptAt P d))) (le-ltb 268435456 u l) refl refl
 
-    pub quad-under : 0 < u → w ≤ 0 → quadWhole (pairsOf p) ≡ []
-    quad-under k l = quad-is true false (isNeg (area (ptAt P a) (ptAt P c) (ptAt P b) (ptAt P d))) (lt-ltb 0 u k) (le-ltb 0 w l) refl
+    pub quad-under : 268435456 < u → w ≤ 268435456 → quadWhole (pairsOf p) ≡ []
+    quad-under k l =
+        quad-is true false (isNeg (area (ptAt P a) (ptAt P c) (ptAt P b) (ptAt P d))) (lt-ltb 268435456 u k) (le-ltb 268435456 w l) refl
 
-    u-is : u ≡ outAt p a b c
+    u-is : u ≡ sideAt p a b c
     unfolding mostOf
     u-is =
-        ap (λ (q : ℕ × ℕ). q .1) ec ∙ keep-value (outAt p a b) a 0 (range 0 n) (out-self p a b)
-        ∙ ap (λ (q : ℕ × ℕ). outAt p a b (q .0)) (sym ec)
+        ap (λ (q : ℕ × ℕ). q .1) ec ∙ keep-value (sideAt p a b) a 268435456 (range 0 n) (side-self p a b)
+        ∙ ap (λ (q : ℕ × ℕ). sideAt p a b (q .0)) (sym ec)
 
-    w-is : w ≡ outAt p b a d
+    w-is : w ≡ sideAt p b a d
     unfolding mostOf
     w-is =
-        ap (λ (q : ℕ × ℕ). q .1) ed ∙ keep-value (outAt p b a) a 0 (range 0 n) (out-other p a b)
-        ∙ ap (λ (q : ℕ × ℕ). outAt p b a (q .0)) (sym ed)
+        ap (λ (q : ℕ × ℕ). q .1) ed ∙ keep-value (sideAt p b a) a 268435456 (range 0 n) (side-other p a b)
+        ∙ ap (λ (q : ℕ × ℕ). sideAt p b a (q .0)) (sym ed)
+
+    -- how far a point lies out
+    out-is : (e f i v : ℕ) → v ≡ sideAt p e f i → 268435456 < v → side e f i ≡ pos (v - 268435456)
+    out-is e f i v z l =
+        side-any p even bounded e f i ∙ ap (λ (k : ℕ). pos k ⊕ neg (pos 268435456)) (sym z) ∙ sub-pos v 268435456 (omega arith)
 
     -- the area is below 0 wherever there is a point on either side
-    area-below : 0 < u → 0 < w → isNeg (area (ptAt P a) (ptAt P c) (ptAt P b) (ptAt P d)) ≡ true
+    area-below : 268435456 < u → 268435456 < w → isNeg (area (ptAt P a) (ptAt P c) (ptAt P b) (ptAt P d)) ≡ true
     area-below k l =
-        ap isNeg (area-is (ptAt P a) (ptAt P c) (ptAt P b) (ptAt P d) ∙ ap₂ (λ (x y : ℤ). neg (x ⊕ y))
-        (clip-is 0 (side a b c) (outAt p a b c) (out-clip a b c) (lt-ltb 0 (outAt p a b c) (omega (arith, u-is))))
-        (clip-is 0 (side b a d) (outAt p b a d) (out-clip b a d) (lt-ltb 0 (outAt p b a d) (omega (arith, w-is)))))
-        ∙ minus (outAt p a b c) (outAt p b a d) (omega (arith, u-is))
+        ap isNeg (area-is (ptAt P a) (ptAt P c) (ptAt P b) (ptAt P d)
+        ∙ ap₂ (λ (x y : ℤ). neg (x ⊕ y)) (out-is a b c u u-is k) (out-is b a d w w-is l))
+        ∙ minus (u - 268435456) (w - 268435456) (omega arith)
 
-    pub quad-found : 0 < u → 0 < w → quadWhole (pairsOf p) ≡ point a ∷ point d ∷ point b ∷ point c ∷ []
-    quad-found k l = quad-is true true true (lt-ltb 0 u k) (lt-ltb 0 w l) (area-below k l)
+    pub quad-found : 268435456 < u → 268435456 < w → quadWhole (pairsOf p) ≡ point a ∷ point d ∷ point b ∷ point c ∷ []
+    quad-found k l = quad-is true true true (lt-ltb 268435456 u k) (lt-ltb 268435456 w l) (area-below k l)

@@ -1,11 +1,11 @@
 -- What the loops of the quad hold on their way: values by the numbers of a list. A turn is the difference of two sums of products, so that
 -- no number is below 0. Definitions only. Assumes nothing.
 use mathlib.Core.Bool.{true, false}
-use mathlib.Core.List.{List}
+use mathlib.Core.List.{List, map}
 use Prim.Native.Nat.{ℕ, _+_, _-_, _*_}
 use lib.Dec.{ltb}
 use Rattle.whole.specs.Hull.{range}
-use Rattle.whole.specs.Wrap.{keep}
+use Rattle.whole.specs.Wrap.{keep, with-i}
 use Rattle.hull.specs.Points.{many}
 use Rattle.doubled.specs.Points.{xAt, yAt}
 
@@ -16,9 +16,9 @@ turnL p o a b = xAt p a * yAt p b + xAt p b * yAt p o + xAt p o * yAt p a
 unfoldable pub turnR : List ℕ → ℕ → ℕ → ℕ → ℕ
 turnR p o a b = yAt p a * xAt p b + yAt p b * xAt p o + yAt p o * xAt p a
 
--- How far point i lies out on the right of the way from a to b; 0 on the way and on its left.
-unfoldable pub outAt : List ℕ → ℕ → ℕ → ℕ → ℕ
-outAt p a b i = turnL p a b i - turnR p a b i
+-- How far point i lies on the right of the way from a to b, counted from 268,435,456 on the way itself; less than that on the left.
+unfoldable pub sideAt : List ℕ → ℕ → ℕ → ℕ → ℕ
+sideAt p a b i = 268435456 + turnL p a b i - turnR p a b i
 
 -- The difference of two numbers.
 unfoldable pub gap : ℕ → ℕ → ℕ
@@ -36,6 +36,13 @@ apart p q = d2At p (q .0) (q .1) + 1
 unfoldable pub kept1 : {T : Type 0} → (T → ℕ) → T → ℕ → T → T × ℕ
 kept1 g x u y = elim (ltb u (g y)) [ true ↦ (y, g y) | false ↦ (x, u) ]
 
--- The point farthest out on the right of the way from a to b, with how far; a point st with 0 where there is none.
+-- The pair of point i with a later point that is farthest apart, with one more than its squared distance; 0 where none is later.
+unfoldable pub farFrom : List ℕ → ℕ → (ℕ × ℕ) × ℕ
+farFrom p i = keep ltb (apart p) (0, 0) 0 (map (with-i i) (range (i + 1) (many p - (i + 1))))
+
+unfoldable pub reachOf : List ℕ → ℕ → ℕ
+reachOf p i = farFrom p i .1
+
+-- The point farthest out on the right of the way from a to b, with its side; a point st where there is none.
 unfoldable pub mostOf : List ℕ → ℕ → ℕ → ℕ → ℕ × ℕ
-mostOf p a b st = keep ltb (outAt p a b) st 0 (range 0 (many p))
+mostOf p a b st = keep ltb (sideAt p a b) st 268435456 (range 0 (many p))

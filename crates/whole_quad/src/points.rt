@@ -1,82 +1,40 @@
-// Points of a list of alternating x and y, by their number. Every number is 0 to 8,192, so that a
-// product is at most 2 to the power 26 and each sum fits a u32.
+// What is compared of points of a list, by their numbers: the side of a way that one lies on, and the
+// squared distance of two.
+use doubled::coordinates::product;
+use doubled::coordinates::x_at;
+use doubled::coordinates::y_at;
 ghost use mathlib.Core.Path.{_≡_};
 ghost use Prim.Native.Nat.{_*_, _<_, _≤_};
 ghost use Rattle.hull.specs.Points.{many};
-ghost use Rattle.doubled.specs.Points.{xAt, yAt, Bounded};
-ghost use Rattle.whole_quad.specs.Steps.{turnL, turnR, outAt, gap as Gap, d2At};
+ghost use Rattle.doubled.specs.Points.{Bounded};
+ghost use Rattle.whole_quad.specs.Steps.{sideAt, gap, d2At};
 
-// The product of two coordinates.
-fn product(a: u32, b: u32) -> u32
-    requires { ⌜ (a ≤ 8192) × (b ≤ 8192) ⌝ }
-    ensures { λ r. ⌜ (r ≡ a * b) × (r ≤ 67108864) ⌝ }
-{
-    a * b
-}
-
-// The coordinates of point i.
-pub fn x_at(p: &[u32], i: usize) -> u32
-    requires { ⌜ i < many (now p) ⌝ }
-    requires { ⌜ Bounded (now p) ⌝ }
-    ensures { λ r. ⌜ (r ≡ xAt (now (p .entry)) i) × (r ≤ 8192) ⌝ }
-{
-    p[2 * i]
-}
-
-pub fn y_at(p: &[u32], i: usize) -> u32
-    requires { ⌜ i < many (now p) ⌝ }
-    requires { ⌜ Bounded (now p) ⌝ }
-    ensures { λ r. ⌜ (r ≡ yAt (now (p .entry)) i) × (r ≤ 8192) ⌝ }
-{
-    p[2 * i + 1]
-}
-
-// The turn from point o over a to b is the first of these less the second.
-pub fn turn_l(p: &[u32], o: usize, a: usize, b: usize) -> u32
-    requires { ⌜ (o < many (now p)) × (a < many (now p)) × (b < many (now p)) ⌝ }
-    requires { ⌜ Bounded (now p) ⌝ }
-    ensures { λ r. ⌜ (r ≡ turnL (now (p .entry)) o a b) × (r ≤ 201326592) ⌝ }
-{
-    let bc = product(x_at(p, a), y_at(p, b));
-    let co = product(x_at(p, b), y_at(p, o));
-    let oa = product(x_at(p, o), y_at(p, a));
-    bc + co + oa
-}
-
-pub fn turn_r(p: &[u32], o: usize, a: usize, b: usize) -> u32
-    requires { ⌜ (o < many (now p)) × (a < many (now p)) × (b < many (now p)) ⌝ }
-    requires { ⌜ Bounded (now p) ⌝ }
-    ensures { λ r. ⌜ (r ≡ turnR (now (p .entry)) o a b) × (r ≤ 201326592) ⌝ }
-{
-    let bc = product(y_at(p, a), x_at(p, b));
-    let co = product(y_at(p, b), x_at(p, o));
-    let oa = product(y_at(p, o), x_at(p, a));
-    bc + co + oa
-}
-
-// How far point i lies out on the right of the way from a to b; 0 on the way and on its left.
-pub fn out_at(p: &[u32], a: usize, b: usize, i: usize) -> u32
+// How far point i lies on the right of the way from a to b, counted from 268,435,456 on the way
+// itself. What is not of point i is worked out once for a way.
+pub fn side_at(p: &[u32], a: usize, b: usize, i: usize) -> u32
     requires { ⌜ (a < many (now p)) × (b < many (now p)) × (i < many (now p)) ⌝ }
     requires { ⌜ Bounded (now p) ⌝ }
-    ensures { λ r. ⌜ r ≡ outAt (now (p .entry)) a b i ⌝ }
+    ensures { λ r. ⌜ (r ≡ sideAt (now (p .entry)) a b i) × (r ≤ 536870912) ⌝ }
 {
-    let l = turn_l(p, a, b, i);
-    let r = turn_r(p, a, b, i);
-    if l < r {
-        return 0;
-    }
-    l - r
+    let xa = x_at(p, a);
+    let ya = y_at(p, a);
+    let xb = x_at(p, b);
+    let yb = y_at(p, b);
+    let right = xb + 8192 - xa;
+    let up = ya + 8192 - yb;
+    let from = 268435456 + product(xa, yb) - product(xb, ya);
+    let x = x_at(p, i);
+    let y = y_at(p, i);
+    from + product(right, y) + product(up, x) - 8192 * (x + y)
 }
 
-// The difference of two coordinates.
-fn gap(a: u32, b: u32) -> u32
+// The square of the difference of two coordinates.
+fn square(a: u32, b: u32) -> u32
     requires { ⌜ (a ≤ 8192) × (b ≤ 8192) ⌝ }
-    ensures { λ r. ⌜ (r ≡ Gap a b) × (r ≤ 8192) ⌝ }
+    ensures { λ r. ⌜ (r ≡ gap a b * gap a b) × (r ≤ 67108864) ⌝ }
 {
-    if a < b {
-        return b - a;
-    }
-    a - b
+    let d = a as i32 - b as i32;
+    (d * d) as u32
 }
 
 // The squared distance of points a and b.
@@ -85,9 +43,7 @@ pub fn d2_at(p: &[u32], a: usize, b: usize) -> u32
     requires { ⌜ Bounded (now p) ⌝ }
     ensures { λ r. ⌜ (r ≡ d2At (now (p .entry)) a b) × (r ≤ 134217728) ⌝ }
 {
-    let dx = gap(x_at(p, a), x_at(p, b));
-    let dy = gap(y_at(p, a), y_at(p, b));
-    let xx = product(dx, dx);
-    let yy = product(dy, dy);
+    let xx = square(x_at(p, a), x_at(p, b));
+    let yy = square(y_at(p, a), y_at(p, b));
     xx + yy
 }

@@ -4,41 +4,32 @@ use crate::corners::Corners;
 use crate::corners::Point;
 use crate::corners::Quad;
 use crate::points::d2_at;
-use crate::points::out_at;
-use crate::points::x_at;
-use crate::points::y_at;
+use crate::points::side_at;
+use doubled::coordinates::x_at;
+use doubled::coordinates::y_at;
 ghost use mathlib.Core.Path.{_≡_};
-ghost use mathlib.Core.List.{map, [], _∷_};
-ghost use Prim.Native.Nat.{_+_, _-_, _*_, _<_};
+ghost use mathlib.Core.List.{[], _∷_};
+ghost use Prim.Native.Nat.{_+_, _-_, _*_, _<_, _≤_};
 ghost use lib.Dec.{ltb};
 ghost use lib.ListN.{length};
 ghost use Rattle.whole.specs.Hull.{range};
-ghost use Rattle.whole.specs.Wrap.{keep, ipairs, with-i};
+ghost use Rattle.whole.specs.Wrap.{keep, ipairs};
 ghost use Rattle.hull.specs.Points.{many};
 ghost use Rattle.doubled.specs.Points.{xAt, yAt, Bounded, pairsOf};
 ghost use Rattle.doubled.specs.Outline.{quadWhole};
 ghost use Rattle.whole_quad.specs.Door.{cornersOf, pointOf};
-ghost use Rattle.whole_quad.specs.Steps.{outAt, apart, kept1, mostOf};
+ghost use Rattle.whole_quad.specs.Steps.{apart, kept1, farFrom, reachOf, mostOf};
 
-// A point with how far out it lies.
+// A point with a value of it.
 struct Kept {
     at: usize,
     val: u32,
 }
 
-// Of k and point i the one that is farther out on the right of the way from a to b.
-fn farther(p: &[u32], a: usize, b: usize, k: Kept, i: usize) -> Kept
-    requires { ⌜
-        (a < many (now p))
-        × (b < many (now p))
-        × (i < many (now p))
-        × (k .at < many (now p)) ⌝ }
-    requires { ⌜ Bounded (now p) ⌝ }
-    ensures { λ r. ⌜
-        ((r .at, r .val) ≡ kept1 (outAt (now (p .entry)) a b) (k .at) (k .val) i)
-        × (r .at < many (now (p .entry))) ⌝ }
+// k, or point i where its value s is greater.
+fn greater(k: Kept, i: usize, s: u32) -> Kept
+    ensures { λ r. ⌜ (r .at, r .val) ≡ kept1 (λ _. s) (k .at) (k .val) i ⌝ }
 {
-    let s = out_at(p, a, b, i);
     let val = k.val;
     if val < s {
         return Kept { at: i, val: s };
@@ -46,22 +37,116 @@ fn farther(p: &[u32], a: usize, b: usize, k: Kept, i: usize) -> Kept
     k
 }
 
-// The point farthest out on the right of the way from a to b; st with 0 where there is none.
-fn most(p: &[u32], a: usize, b: usize, st: usize) -> Kept
-    requires { ⌜ (a < many (now p)) × (b < many (now p)) × (st < many (now p)) ⌝ }
+// k, or point i where its side s is less: where its side of the way back is greater.
+fn less(k: Kept, i: usize, s: u32) -> Kept
+    requires { ⌜ (k .val ≤ 536870912) × (s ≤ 536870912) ⌝ }
+    ensures { λ r. ⌜
+        ((r .at, 536870912 - r .val)
+        ≡ kept1 (λ _. 536870912 - s) (k .at) (536870912 - k .val) i)
+        × (r .val ≤ 536870912) ⌝ }
+{
+    let val = k.val;
+    if s < val {
+        return Kept { at: i, val: s };
+    }
+    k
+}
+
+// The points farthest out on the right and on the left of a way, with their sides.
+struct Sides {
+    right: Kept,
+    left: Kept,
+}
+
+// The points farthest out on either side of the way from a to b; a where there is none.
+fn most(p: &[u32], a: usize, b: usize) -> Sides
+    requires { ⌜ (a < many (now p)) × (b < many (now p)) ⌝ }
     requires { ⌜ Bounded (now p) ⌝ }
     ensures { λ r. ⌜
-        ((r .at, r .val) ≡ mostOf (now (p .entry)) a b st)
-        × (r .at < many (now (p .entry))) ⌝ }
+        ((r .right .at, r .right .val) ≡ mostOf (now (p .entry)) a b a)
+        × (r .right .at < many (now (p .entry))) ⌝ }
+    ensures { λ r. ⌜
+        ((r .left .at, 536870912 - r .left .val) ≡ mostOf (now (p .entry)) b a a)
+        × (r .left .at < many (now (p .entry))) ⌝ }
 {
     let n = p.len() / 2;
-    let mut k = Kept { at: st, val: 0 };
+    let mut right = Kept {
+        at: a,
+        val: 268435456,
+    };
+    let mut left = Kept {
+        at: a,
+        val: 268435456,
+    };
     let mut i = 0;
     while i < n {
-        k = farther(p, a, b, k, i);
+        let s = side_at(p, a, b, i);
+        right = greater(right, i, s);
+        left = less(left, i, s);
+        i += 1;
+    }
+    Sides {
+        right: right,
+        left: left,
+    }
+}
+
+// The greater of two numbers.
+fn larger(m: u32, d: u32) -> u32
+    ensures { λ r. ⌜ (m < d → r ≡ d) × (d ≤ m → r ≡ m) ⌝ }
+{
+    if m < d {
+        return d;
+    }
+    m
+}
+
+// One more than the greatest squared distance of point i from a later one.
+fn reach(p: &[u32], i: usize) -> u32
+    requires { ⌜ i + 1 < many (now p) ⌝ }
+    requires { ⌜ Bounded (now p) ⌝ }
+    ensures { λ r. ⌜ r ≡ reachOf (now (p .entry)) i ⌝ }
+{
+    let n = p.len() / 2;
+    let mut far = 0;
+    let mut j = i + 1;
+    while j < n {
+        far = larger(far, d2_at(p, i, j));
+        j += 1;
+    }
+    far + 1
+}
+
+// The first point that has a later one farther away than any other has, and its reach.
+fn widest(p: &[u32]) -> Kept
+    requires { ⌜ 1 < many (now p) ⌝ }
+    requires { ⌜ Bounded (now p) ⌝ }
+    ensures { λ r. ⌜
+        ((r .at, r .val)
+        ≡ keep ltb (reachOf (now (p .entry))) 0 0 (range 0 (many (now (p .entry)) - 1)))
+        × (r .at + 1 < many (now (p .entry))) ⌝ }
+{
+    let last = p.len() / 2 - 1;
+    let mut k = Kept { at: 0, val: 0 };
+    let mut i = 0;
+    while i < last {
+        k = greater(k, i, reach(p, i));
         i += 1;
     }
     k
+}
+
+// The first point after i that lies as far away as its reach.
+fn partner(p: &[u32], i: usize, far: u32) -> usize
+    requires { ⌜ (i + 1 < many (now p)) × (far ≡ reachOf (now p) i) ⌝ }
+    requires { ⌜ Bounded (now p) ⌝ }
+    ensures { λ r. ⌜ (((i, r), far) ≡ farFrom (now (p .entry)) i) × (r < many (now (p .entry))) ⌝ }
+{
+    let mut j = i + 1;
+    while d2_at(p, i, j) + 1 < far {
+        j += 1;
+    }
+    j
 }
 
 // A pair with one more than its squared distance.
@@ -71,52 +156,10 @@ struct Pair {
     far: u32,
 }
 
-// Of the pair best and i, j the one that is farther apart.
-fn wider(p: &[u32], best: Pair, i: usize, j: usize) -> Pair
-    requires { ⌜
-        (i < many (now p))
-        × (j < many (now p))
-        × (best .a < many (now p))
-        × (best .b < many (now p)) ⌝ }
-    requires { ⌜ Bounded (now p) ⌝ }
-    ensures { λ r. ⌜
-        (((r .a, r .b), r .far)
-        ≡ kept1 (apart (now (p .entry))) (best .a, best .b) (best .far) (with-i i j))
-        × (r .a < many (now (p .entry)))
-        × (r .b < many (now (p .entry))) ⌝ }
-{
-    let d = d2_at(p, i, j) + 1;
-    let far = best.far;
-    if far < d {
-        return Pair { a: i, b: j, far: d };
-    }
-    best
-}
-
-// Of the pair best and the pairs of i with a later point the one that is farthest apart.
-fn widest(p: &[u32], best: Pair, i: usize) -> Pair
-    requires { ⌜ (i < many (now p)) × (best .a < many (now p)) × (best .b < many (now p)) ⌝ }
-    requires { ⌜ Bounded (now p) ⌝ }
-    ensures { λ r. ⌜
-        (((r .a, r .b), r .far)
-        ≡ keep ltb (apart (now (p .entry))) (best .a, best .b) (best .far)
-        (map (with-i i) (range (i + 1) (many (now (p .entry)) - (i + 1)))))
-        × (r .a < many (now (p .entry)))
-        × (r .b < many (now (p .entry))) ⌝ }
-{
-    let n = p.len() / 2;
-    let mut pair = best;
-    let mut j = i + 1;
-    while j < n {
-        pair = wider(p, pair, i, j);
-        j += 1;
-    }
-    pair
-}
-
-// The pair farthest apart, the first of those.
+// The pair farthest apart, the first of those. The distances alone are compared first, which takes
+// several at a time; where the greatest stands is looked up afterwards.
 fn farthest(p: &[u32]) -> Pair
-    requires { ⌜ 0 < many (now p) ⌝ }
+    requires { ⌜ 1 < many (now p) ⌝ }
     requires { ⌜ Bounded (now p) ⌝ }
     ensures { λ r. ⌜
         (((r .a, r .b), r .far)
@@ -124,14 +167,15 @@ fn farthest(p: &[u32]) -> Pair
         × (r .a < many (now (p .entry)))
         × (r .b < many (now (p .entry))) ⌝ }
 {
-    let n = p.len() / 2;
-    let mut best = Pair { a: 0, b: 0, far: 0 };
-    let mut i = 0;
-    while i < n {
-        best = widest(p, best, i);
-        i += 1;
+    let k = widest(p);
+    let a = k.at;
+    let far = k.val;
+    let b = partner(p, a, far);
+    Pair {
+        a: a,
+        b: b,
+        far: far,
     }
-    best
 }
 
 // Point i.
@@ -188,14 +232,13 @@ pub fn quad_of(p: &[u32]) -> Corners
     let t = farthest(p);
     let a = t.a;
     let b = t.b;
-    let over = most(p, a, b, a);
-    let under = most(p, b, a, a);
-    let c = over.at;
-    let u = over.val;
-    let d = under.at;
-    let w = under.val;
-    if 0 < u {
-        if 0 < w {
+    let s = most(p, a, b);
+    let c = s.right.at;
+    let d = s.left.at;
+    let high = s.right.val;
+    let low = s.left.val;
+    if 268435456 < high {
+        if low < 268435456 {
             return corners_at(p, a, d, b, c);
         }
         return Corners::NoQuad;

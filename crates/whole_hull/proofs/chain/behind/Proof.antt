@@ -1,10 +1,9 @@
 -- `whole_hull::chain::behind` meets its contract. Assumes nothing.
-use mathlib.Core.Path.{_≡_}
-use Prim.Native.Nat.{_+_}
 use native.Mathlib.Omega.{arith}
 use denote.Ref.{now}
+use Rattle.whole_hull.specs.Chain.{at}
+use Rattle.whole_hull.proofs.Turns.{behind-sums}
 use borrow.Author.Needs.{needs}
-use Rattle.whole_hull.specs.Chain.{at, sumL, sumR}
 use Rattle.whole_hull.proofs.chain.behind.Statement.{statement}
 use Rattle.whole_hull.proofs.chain.behind.Tie as tie
 
@@ -17,59 +16,68 @@ y-of-requires-2 c κs = search needs
 y-of-requires-3 : tie.Need-y-of-requires-3
 y-of-requires-3 c κs = search needs
 
+add-product : tie.Need-add-product
+add-product c = search needs
+
+sub-product : tie.Need-sub-product
+sub-product c = search needs
+
+sub-product-2 : tie.Need-sub-product-2
+sub-product-2 c = search needs
+
 product-requires : tie.Need-product-requires
 product-requires c κs = search needs
 
-product-requires-2 : tie.Need-product-requires-2
-product-requires-2 c κs = search needs
+sub-l : tie.Need-sub-l
+sub-l c = search needs
+
+mul-l : tie.Need-mul-l
+mul-l c = search needs
 
 add-l : tie.Need-add-l
 add-l c = search needs
 
-product-requires-3 : tie.Need-product-requires-3
-product-requires-3 c κs = search needs
+add-product-2 : tie.Need-add-product-2
+add-product-2 c = search needs
 
-add-l-2 : tie.Need-add-l-2
-add-l-2 c = search needs
+sub-product-3 : tie.Need-sub-product-3
+sub-product-3 c = search needs
 
-product-requires-4 : tie.Need-product-requires-4
-product-requires-4 c κs = search needs
+sub-product-4 : tie.Need-sub-product-4
+sub-product-4 c = search needs
 
-product-requires-5 : tie.Need-product-requires-5
-product-requires-5 c κs = search needs
-
-add-r : tie.Need-add-r
-add-r c = search needs
-
-product-requires-6 : tie.Need-product-requires-6
-product-requires-6 c κs = search needs
-
-add-r-2 : tie.Need-add-r-2
-add-r-2 c = search needs
+product-requires-2 : tie.Need-product-requires-2
+product-requires-2 c κs = search needs
 
 returns : tie.Need-returns
 returns c =
-    let q = c .before in
-    let p = q .before .before .before in
-    let s = p .before .before .before .before .before .before .before .args in
-    let l : p .before .before .product .result + p .before .product2 .result + p .product3 .result
-    ≡ sumL (at (now (s .a))) (s .u) (s .c) (s .w) = unfold sumL in cc in
-    let r : q .before .before .product4 .result + q .before .product5 .result + q .product6 .result
-    ≡ sumR (at (now (s .a))) (s .u) (s .c) (s .w) = unfold sumR in cc in
-    let t = c .if1 .taken in
-    ((λ e. absurd (mathlib.Core.Bool.false≢true e)), λ e. omega arith)
+    let q = c .before .before .before in
+    let yw = q .y-of3 in
+    let yc = q .before .y-of2 in
+    let yu = q .before .before .y-of in
+    let t = q .before .before .before .before in
+    let s = t .args in
+    let l = c .before .before .product in
+    let r = c .before .product2 in
+    let e = behind-sums (s .u) (s .c) (s .w) (yu .result) (yc .result) (yw .result) (l .result) (r .result) (t .pre .1 .1 .1 .1 .0) (t .pre .1 .1 .1 .1 .1)
+    (yu .ensures .1) (l .ensures .0) (r .ensures .0) (at (now (s .a))) (yu .ensures .0) (yc .ensures .0) (yw .ensures .0) in
+    let k = c .if1 .taken in
+    ((λ z. absurd (mathlib.Core.Bool.false≢true z)), λ z. omega (arith, e, k))
 
 returns-2 : tie.Need-returns-2
 returns-2 c =
-    let q = c .before in
-    let p = q .before .before .before in
-    let s = p .before .before .before .before .before .before .before .args in
-    let l : p .before .before .product .result + p .before .product2 .result + p .product3 .result
-    ≡ sumL (at (now (s .a))) (s .u) (s .c) (s .w) = unfold sumL in cc in
-    let r : q .before .before .product4 .result + q .before .product5 .result + q .product6 .result
-    ≡ sumR (at (now (s .a))) (s .u) (s .c) (s .w) = unfold sumR in cc in
-    let t = c .if1 .left in
-    ((λ e. omega arith), λ e. absurd (mathlib.Core.Bool.true≢false e))
+    let q = c .before .before .before in
+    let yw = q .y-of3 in
+    let yc = q .before .y-of2 in
+    let yu = q .before .before .y-of in
+    let t = q .before .before .before .before in
+    let s = t .args in
+    let l = c .before .before .product in
+    let r = c .before .product2 in
+    let e = behind-sums (s .u) (s .c) (s .w) (yu .result) (yc .result) (yw .result) (l .result) (r .result) (t .pre .1 .1 .1 .1 .0) (t .pre .1 .1 .1 .1 .1)
+    (yu .ensures .1) (l .ensures .0) (r .ensures .0) (at (now (s .a))) (yu .ensures .0) (yc .ensures .0) (yw .ensures .0) in
+    let k = c .if1 .left in
+    ((λ z. omega (arith, e, k)), λ z. absurd (mathlib.Core.Bool.true≢false z))
 
 pub behind-spec : {M : Type 1} → statement M
 behind-spec =
@@ -78,15 +86,16 @@ behind-spec =
     y-of-requires
     y-of-requires-2
     y-of-requires-3
+    add-product
+    sub-product
+    sub-product-2
     product-requires
-    product-requires-2
+    sub-l
+    mul-l
     add-l
-    product-requires-3
-    add-l-2
-    product-requires-4
-    product-requires-5
-    add-r
-    product-requires-6
-    add-r-2
+    add-product-2
+    sub-product-3
+    sub-product-4
+    product-requires-2
     returns
     returns-2)

@@ -61,7 +61,7 @@ behind-requires c κs =
     let g = s .args in
     let q = c .before .before .before .loop in
     let f = kept-full (at (now (g .a))) (g .e) (s .pre .1 .1 .0) (now (g .s)) (q .m) (c .before .before .loop-test .taken) (q .inv .2) in
-    (s .pre .0, (f .0, (f .1, s .pre .1 .1 .0)))
+    (s .pre .0, (f .0, (f .1, (s .pre .1 .1 .0, (f .2, f .3)))))
 
 sub-m : tie.Need-sub-m Inv-loop μ-loop
 sub-m c = search needs

@@ -1,6 +1,6 @@
 -- `whole_quad::points::d2_at` meets its contract. Assumes nothing.
-use Rattle.whole_quad.specs.Steps.{d2At}
 use native.Mathlib.Omega.{arith}
+use Rattle.whole_quad.specs.Steps.{d2At}
 use borrow.Author.Needs.{needs}
 use Rattle.whole_quad.proofs.points.d2_at.Statement.{statement}
 use Rattle.whole_quad.proofs.points.d2_at.Tie as tie
@@ -11,8 +11,8 @@ x-at-requires c κs = search needs
 x-at-requires-2 : tie.Need-x-at-requires-2
 x-at-requires-2 c κs = search needs
 
-gap-requires : tie.Need-gap-requires
-gap-requires c κs = search needs
+square-requires : tie.Need-square-requires
+square-requires c κs = search needs
 
 y-at-requires : tie.Need-y-at-requires
 y-at-requires c κs = search needs
@@ -20,14 +20,8 @@ y-at-requires c κs = search needs
 y-at-requires-2 : tie.Need-y-at-requires-2
 y-at-requires-2 c κs = search needs
 
-gap-requires-2 : tie.Need-gap-requires-2
-gap-requires-2 c κs = search needs
-
-product-requires : tie.Need-product-requires
-product-requires c κs = search needs
-
-product-requires-2 : tie.Need-product-requires-2
-product-requires-2 c κs = search needs
+square-requires-2 : tie.Need-square-requires-2
+square-requires-2 c κs = search needs
 
 add-result : tie.Need-add-result
 add-result c = search needs
@@ -42,11 +36,9 @@ d2-at-spec =
     (tie.spec
     x-at-requires
     x-at-requires-2
-    gap-requires
+    square-requires
     y-at-requires
     y-at-requires-2
-    gap-requires-2
-    product-requires
-    product-requires-2
+    square-requires-2
     add-result
     returns)

@@ -1,60 +1,37 @@
--- `whole_quad::sides::farthest` meets its contract. The loop's invariant: best is a pair of points, and the fold over the pairs from i on
--- gives the farthest. The measure is the number of points left. Assumes nothing.
-use mathlib.Core.Path.{_≡_, _∙_}
-use Prim.Native.Nat.{_-_, _≤_, _<_}
+-- `whole_quad::sides::farthest` meets its contract. Assumes nothing.
+use mathlib.Core.Path.{_∙_}
 use native.Mathlib.Omega.{arith}
-use lib.Dec.{ltb}
 use denote.Ref.{now}
 use borrow.Author.Needs.{needs}
-use Rattle.whole.specs.Wrap.{keep, ipairs}
 use Rattle.hull.specs.Points.{many}
-use Rattle.whole_quad.specs.Steps.{apart}
-use Rattle.whole_quad.proofs.Pairs.{pairs-begin, pairs-turn, pairs-end}
+use Rattle.whole_quad.specs.Steps.{apart, farFrom, reachOf}
+use Rattle.whole_quad.proofs.Pairs.{rows-are}
+use Rattle.whole_quad.proofs.Turns.{apart-some}
 use Rattle.whole_quad.proofs.sides.farthest.Statement.{statement}
 use Rattle.whole_quad.proofs.sides.farthest.Tie as tie
 
-abbrev Inv-loop : tie.InvT-loop
-Inv-loop p n best₀ i₀ best i =
-    (best .a < n) × (best .b < n) × (i ≤ n)
-    × (keep ltb (apart p) (best .a, best .b) (best .far) (ipairs i (n - i)) ≡ keep ltb (apart p) (0, 0) 0 (ipairs 0 n))
-
-abbrev μ-loop : tie.MeasureT-loop
-μ-loop p n best₀ i₀ best i = n - i
-
-loop-holds : tie.Need-loop-holds Inv-loop μ-loop
-loop-holds c =
-    let e = c .before in let p = now (e .args .p) in
-    (e .pre .0, e .pre .0, omega arith, pairs-begin (apart p) (many p) (0, 0) 0)
-
-widest-requires : tie.Need-widest-requires Inv-loop μ-loop
+widest-requires : tie.Need-widest-requires
 widest-requires c κs = search needs
 
-add-i : tie.Need-add-i Inv-loop μ-loop
-add-i c = search needs
+partner-requires : tie.Need-partner-requires
+unfolding reachOf farFrom
+partner-requires c κs =
+    let s = c .before .before in
+    let p = now (s .args .p) in
+    let k = c .widest in
+    ((k .ensures .1, rows-are (apart p) (apart-some p) (many p) (k .result .at) (k .result .val) (s .pre .0) (k .ensures .0) .0), s .pre .1)
 
-loop-less : tie.Need-loop-less Inv-loop μ-loop
-loop-less c = search needs
-
-loop-again : tie.Need-loop-again Inv-loop μ-loop
-loop-again c =
-    let a = c .before .before .before .before .args in let q = c .before .before .loop in let r = c .widest in (
-      r .ensures .1,
-      r .ensures .2,
-      omega arith,
-      pairs-turn (apart (now (a .p))) (many (now (a .p))) (q .i) (q .best .a, q .best .b) (r .result .a, r .result .b) (q .best .far)
-          (r .result .far) (omega arith) (r .ensures .0) ∙ q .inv .3,
-    )
-
-returns : tie.Need-returns Inv-loop μ-loop
+returns : tie.Need-returns
+unfolding reachOf farFrom
 returns c =
-    let a = c .before .before .before .args in let q = c .before .loop in (
-      pairs-end (apart (now (a .p))) (many (now (a .p))) (q .i) (q .best .a, q .best .b) (q .best .far) (omega arith)
-          ∙ q .inv .3,
-      q .inv .0,
-      q .inv .1,
+    let s = c .before .before .before in
+    let p = now (s .args .p) in
+    let k = c .before .widest in
+    let r = c .partner in (
+      r .ensures .0 ∙ rows-are (apart p) (apart-some p) (many p) (k .result .at) (k .result .val) (s .pre .0) (k .ensures .0) .1,
+      omega arith,
+      r .ensures .1,
     )
 
 pub farthest-spec : {M : Type 1} → statement M
-farthest-spec =
-    tie.close
-    (tie.spec Inv-loop μ-loop loop-holds widest-requires add-i loop-less loop-again returns)
+farthest-spec = tie.close (tie.spec widest-requires partner-requires returns)

@@ -1,65 +1,65 @@
--- `whole_quad::sides::widest` meets its contract. The loop's invariant: the pair is one of points, and the fold over the pairs of i with j
--- or later gives the farthest. The measure is the number of points left. Assumes nothing.
-use mathlib.Core.List.{map}
-use mathlib.Core.Path.{_≡_, refl, _∙_}
-use Prim.Native.Nat.{_-_, _≤_, _<_, _+_}
+-- `whole_quad::sides::widest` meets its contract. The loop's invariant: what is kept is a point before the last, and the fold over the
+-- reaches from i on gives the widest. The measure is the number of points left. Assumes nothing.
+use mathlib.Core.Path.{_≡_, _∙_}
+use Prim.Native.Nat.{_-_, _≤_, _<_}
 use native.Mathlib.Omega.{arith}
 use lib.Dec.{ltb}
 use denote.Ref.{now}
 use borrow.Author.Needs.{needs}
 use Rattle.whole.specs.Hull.{range}
-use Rattle.whole.specs.Wrap.{keep, with-i}
+use Rattle.whole.specs.Wrap.{keep}
 use Rattle.hull.specs.Points.{many}
-use Rattle.whole_quad.specs.Steps.{apart}
-use Rattle.whole_quad.proofs.Pairs.{pair-turn, pair-end}
+use Rattle.whole_quad.specs.Steps.{reachOf}
+use Rattle.whole_quad.proofs.Pairs.{keep-begin, keep-turn, keep-end, kept-at, kept-in}
 use Rattle.whole_quad.proofs.sides.widest.Statement.{statement}
 use Rattle.whole_quad.proofs.sides.widest.Tie as tie
 
 abbrev Inv-loop : tie.InvT-loop
-Inv-loop p i n pair₀ j₀ pair j =
-    (pair .a < n) × (pair .b < n) × (i < n) × (j ≤ n)
-    × (keep ltb (apart p) (pair .a, pair .b) (pair .far) (map (with-i i) (range j (n - j)))
-    ≡ keep ltb (apart p) (pair₀ .a, pair₀ .b) (pair₀ .far) (map (with-i i) (range (i + 1) (n - (i + 1)))))
+Inv-loop p last k₀ i₀ k i =
+    (k .at < last) × (i ≤ last)
+    × (keep ltb (reachOf p) (k .at) (k .val) (range i (last - i)) ≡ keep ltb (reachOf p) 0 0 (range 0 last))
 
 abbrev μ-loop : tie.MeasureT-loop
-μ-loop p i n pair₀ j₀ pair j = n - j
+μ-loop p last k₀ i₀ k i = last - i
 
-add-j : tie.Need-add-j Inv-loop μ-loop
-add-j c = search needs
+sub-last : tie.Need-sub-last Inv-loop μ-loop
+sub-last c = search needs
 
 loop-holds : tie.Need-loop-holds Inv-loop μ-loop
-loop-holds c = (omega arith, omega arith, omega arith, omega arith, refl)
+loop-holds c = let p = now (c .before .args .p) in (omega arith, omega arith, keep-begin (reachOf p) 0 (many p - 1) 0)
 
-wider-requires : tie.Need-wider-requires Inv-loop μ-loop
-wider-requires c κs = search needs
+reach-requires : tie.Need-reach-requires Inv-loop μ-loop
+reach-requires c κs = search needs
 
-add-j-2 : tie.Need-add-j-2 Inv-loop μ-loop
-add-j-2 c = search needs
+greater-requires : tie.Need-greater-requires Inv-loop μ-loop
+greater-requires c κs = tt
+
+add-i : tie.Need-add-i Inv-loop μ-loop
+add-i c = search needs
 
 loop-less : tie.Need-loop-less Inv-loop μ-loop
 loop-less c = search needs
 
 loop-again : tie.Need-loop-again Inv-loop μ-loop
 loop-again c =
-    let a = c .before .before .before .before .args in let q = c .before .before .loop in let r = c .wider in (
-      r .ensures .1,
-      r .ensures .2,
+    let p = now (c .before .before .before .before .before .args .p) in
+    let q = c .before .before .before .loop in
+    let h : q .i < many p - 1 = omega arith in
+    let s = c .before .reach in
+    let r = c .greater in (
+      kept-in (q .k .at) (q .i) (q .k .val) (s .result) (r .result .at) (r .result .val) (many p - 1) (r .ensures) (q .inv .0) h,
       omega arith,
-      omega arith,
-      pair-turn (apart (now (a .p))) (many (now (a .p))) (a .i) (q .j) (q .pair .a, q .pair .b) (r .result .a, r .result .b) (q .pair .far)
-          (r .result .far) (omega arith) (r .ensures .0) ∙ q .inv .4,
+      keep-turn (reachOf p) (many p - 1) (q .i) (q .k .at) (r .result .at) (q .k .val) (r .result .val) h
+          (r .ensures ∙ kept-at (reachOf p) (q .k .at) (q .i) (q .k .val) (s .result) (s .ensures)) ∙ q .inv .2,
     )
 
 returns : tie.Need-returns Inv-loop μ-loop
 returns c =
-    let a = c .before .before .before .args in let q = c .before .loop in (
-      pair-end (apart (now (a .p))) (many (now (a .p))) (a .i) (q .j) (q .pair .a, q .pair .b) (q .pair .far) (omega arith)
-          ∙ q .inv .4,
-      q .inv .0,
-      q .inv .1,
-    )
+    let p = now (c .before .before .before .args .p) in
+    let q = c .before .loop in
+    (keep-end (reachOf p) (many p - 1) (q .i) (q .k .at) (q .k .val) (omega arith) ∙ q .inv .2, omega arith)
 
 pub widest-spec : {M : Type 1} → statement M
 widest-spec =
     tie.close
-    (tie.spec Inv-loop μ-loop add-j loop-holds wider-requires add-j-2 loop-less loop-again returns)
+    (tie.spec Inv-loop μ-loop sub-last loop-holds reach-requires greater-requires add-i loop-less loop-again returns)

@@ -1,10 +1,10 @@
--- `whole_quad::points::y_at` meets its contract. Assumes nothing.
+-- `doubled::coordinates::y_at` meets its contract. Assumes nothing.
 use native.Mathlib.Omega.{arith}
 use mathlib.Core.Path.{refl}
 use Prim.Native.Nat.{_*_, _+_}
 use borrow.Author.Needs.{needs}
-use Rattle.whole_quad.proofs.points.y_at.Statement.{statement}
-use Rattle.whole_quad.proofs.points.y_at.Tie as tie
+use Rattle.doubled.proofs.coordinates.y_at.Statement.{statement}
+use Rattle.doubled.proofs.coordinates.y_at.Tie as tie
 
 mul-result : tie.Need-mul-result
 mul-result c = search needs

@@ -1,10 +1,10 @@
--- `whole_hull::tops::x_at` meets its contract. Assumes nothing.
+-- `doubled::coordinates::x_at` meets its contract. Assumes nothing.
+use native.Mathlib.Omega.{arith}
 use mathlib.Core.Path.{refl}
 use Prim.Native.Nat.{_*_}
-use native.Mathlib.Omega.{arith}
 use borrow.Author.Needs.{needs}
-use Rattle.whole_hull.proofs.tops.x_at.Statement.{statement}
-use Rattle.whole_hull.proofs.tops.x_at.Tie as tie
+use Rattle.doubled.proofs.coordinates.x_at.Statement.{statement}
+use Rattle.doubled.proofs.coordinates.x_at.Tie as tie
 
 mul-result : tie.Need-mul-result
 mul-result c = search needs
