@@ -245,7 +245,7 @@ def main():
     write(os.path.join(out, "oracle/build.rs"),
         'fn main() {\n    println!("cargo::rustc-check-cfg=cfg(ours)");\n    println!("cargo::rerun-if-env-changed=LCR_LIB");\n'
         '    if let Ok(dir) = std::env::var("LCR_LIB") {\n        println!("cargo::rustc-cfg=ours");\n'
-        '        println!("cargo::rustc-link-search=native={dir}");\n        for name in ["exports", "inner_exports"] {\n'
+        '        println!("cargo::rustc-link-search=native={dir}");\n        for name in ["lcr_ring", "lcr_inner"] {\n'
         '            println!("cargo::rustc-link-lib=static={name}");\n'
         '            println!("cargo::rerun-if-changed={dir}/lib{name}.a");\n        }\n    }\n}\n')
     if os.path.isdir(driver):

@@ -7,7 +7,7 @@ use lcr_core::version::Version;
 
 pub const AREA: Area = Area { name: "border", stored, random, answer, layout: |_| Layout::heads(3) };
 
-/// Document 01's checks of cells: 8, then 12.
+/// The rules' checks of cells: 8, then 12.
 fn refusal(kind: u32, v: u32, x: i32, y: i32) -> Option<u32> {
     let range = -32768..=32767;
     if kind == 108 && !(1..=64).contains(&v) {

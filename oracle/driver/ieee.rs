@@ -9,12 +9,12 @@ fn f64_of(low: u32, high: u32) -> f64 {
     f64::from_bits(low as u64 | (high as u64) << 32)
 }
 
-/// Document 01's order: a NaN last, all equal; −0 before +0.
+/// The rules' order: a NaN last, all equal; −0 before +0.
 fn before(x: f32, y: f32) -> bool {
     !x.is_nan() && (y.is_nan() || x.total_cmp(&y).is_lt())
 }
 
-/// Document 01's greater value: of −0 and +0 it is +0, of a NaN and a number the number.
+/// The rules' greater value: of −0 and +0 it is +0, of a NaN and a number the number.
 fn most(x: f32, y: f32) -> f32 {
     if x == 0.0 && y == 0.0 { if x.is_sign_negative() { y } else { x } } else { x.max(y) }
 }

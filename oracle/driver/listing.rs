@@ -171,7 +171,7 @@ pub fn program(path: &str, seed: u64, n: u64) {
     println!("traylist: {n} damaged inputs from seed {seed}, {files} of them PGM files, {refused} refused, {listed} listed, with 1 to 4 kept regions {:?}: 0 different", &regions[1..]);
 }
 
-/// Document 01's example, each damage of its record, pictures of every kind, and files.
+/// The rules' example, each damage of its record, pictures of every kind, and files.
 fn stored() -> Vec<Call> {
     let mut o = Vec::new();
     let mut r = Rng(21);

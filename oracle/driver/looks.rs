@@ -121,7 +121,7 @@ pub fn wild(r: &mut Rng) -> f32 {
 }
 
 /// Points that the ring door takes. Past its limits a straightened point can be a NaN that this machine makes
-/// with its sign set, which the Rust's hull puts first and document 01 last.
+/// with its sign set, which the Rust's hull puts first and the rules last.
 pub fn tame(points: &mut [P]) {
     let one = |v: &mut f32| *v = if v.is_nan() { 7.0 } else { v.clamp(-32768.0, 32768.0) };
     for p in points {

@@ -23,7 +23,7 @@ pub fn bits(marks: &[bool]) -> Vec<u32> {
     marks.chunks(32).map(|c| c.iter().enumerate().map(|(k, &b)| (b as u32) << k).sum()).collect()
 }
 
-/// Document 01's checks: 8, then 11 for lumas or marks that are not as many as positions.
+/// The rules' checks: 8, then 11 for lumas or marks that are not as many as positions.
 fn refusal(v: u32, lengths: &[usize]) -> Option<u32> {
     if !known(v) {
         Some(8)
@@ -59,7 +59,7 @@ fn classified(kind: u32, v: u32, m: usize, lumas: &[f32]) -> Vec<u32> {
     }
 }
 
-/// Score, corner and reversal as the Rust has them; the eight counts, an addition, by document 01's maps.
+/// Score, corner and reversal as the Rust has them; the eight counts, an addition, by the rules' maps.
 fn correlated(v: u32, marks: &[bool]) -> Vec<u32> {
     if let Some(n) = refusal(v, &[marks.len()]) {
         return vec![n];

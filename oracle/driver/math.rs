@@ -1,4 +1,4 @@
-//! math: equations, least squares, medians, with document 01's refusals 9 and 10.
+//! math: equations, least squares, medians, with the rules' refusals 9 and 10.
 use crate::calls::{w32, w64, Area, Call, Words};
 use crate::ieee;
 use crate::pic::Rng;
@@ -64,7 +64,7 @@ fn least_squares(n: usize, basis: &[f64], targets: &[f64]) -> Call {
     equations(301, n, basis, targets)
 }
 
-/// Document 01's checks of values: 9, then 10.
+/// The rules' checks of values: 9, then 10.
 fn refusal(v: &[f32]) -> Option<u32> {
     if v.len() > 4096 {
         Some(9)

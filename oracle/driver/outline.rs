@@ -31,7 +31,7 @@ impl Outline {
         Outline { want, w: p.w, h: p.h, bbox, bytes: p.g.clone(), levels: ink.threshold, labels: ink.label, room }
     }
 
-    /// Document 01's checks: 1, 2, 5, 3.
+    /// The rules' checks: 1, 2, 5, 3.
     fn refusal(&self) -> u32 {
         let [x0, y0, x1, y1] = self.bbox;
         let side = |n: u32| (1..=4096).contains(&n);
@@ -126,7 +126,7 @@ fn pairs(p: &[f32]) -> Vec<(f32, f32)> {
     p.chunks_exact(2).map(|c| (c[0], c[1])).collect()
 }
 
-/// The Rust's hull, with document 01's total order (every NaN last, all equal), which decides its start only.
+/// The Rust's hull, with the rules' total order (every NaN last, all equal), which decides its start only.
 fn hull(p: &[(f32, f32)]) -> Vec<(f32, f32)> {
     let plus: Vec<(f32, f32)> = p.iter().map(|q| (num(q.0), num(q.1))).collect();
     ring::convex_hull(&plus)
@@ -242,7 +242,7 @@ fn random(r: &mut Rng) -> Call {
     }
 }
 
-/// Document 01's example, its edges, small and wild lists, and random ones of every kind.
+/// The rules' example, its edges, small and wild lists, and random ones of every kind.
 fn stored() -> Vec<Call> {
     let mut o = Vec::new();
     let mut example = Pic::new(64, 64, 255);
@@ -290,7 +290,7 @@ fn stored() -> Vec<Call> {
             }
         }
     }
-    // hulls and quads: document 01's, collinear points, repeats, -0, NaN, single points, rounded products
+    // hulls and quads: the rules', collinear points, repeats, -0, NaN, single points, rounded products
     let lists: Vec<Vec<f32>> = vec![
         vec![],
         vec![3.0],

@@ -1,7 +1,7 @@
 //! The picture door: level grid, labels and regions.
 //!
 //! A call lends lists whose places hold `lent` numbers, so that untouched places show. The Rust has no refusals and no
-//! lent lists: document 01's checks are here, and places past those needed are expected as they were lent.
+//! lent lists: the rules' checks are here, and places past those needed are expected as they were lent.
 use crate::calls::{Area, Call, Words, packed};
 use crate::pic::{KINDS, Pic, Rng, generate, moved};
 use crate::smaller::{Layout, Unit};
@@ -26,7 +26,7 @@ pub fn region_cells(w: usize, h: usize) -> usize {
     w.div_ceil(8) * h.div_ceil(8)
 }
 
-/// Document 01's checks 1, 2 and 3.
+/// The rules' checks 1, 2 and 3.
 fn refusal(w: usize, h: usize, bytes: usize, grid: usize, labels: usize, stack: usize) -> u32 {
     let side = |n: usize| (1..=4096).contains(&n);
     if !side(w) || !side(h) {
@@ -125,7 +125,7 @@ fn fitting(kind: u32, p: &Pic, spare: usize) -> Call {
     AREA.call(kind, fits(p, spare))
 }
 
-/// The picture of document 01's listing.
+/// The picture of the rules' listing.
 fn square() -> Pic {
     let mut p = Pic::new(64, 64, 255);
     p.rect(16, 16, 48, 48, 0);

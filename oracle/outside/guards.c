@@ -6,7 +6,7 @@
  * begins, and once begins where one ends. A touch outside ends the program; so does the first of these that
  * fails, with 1 and the call's seed:
  *   the result and what every list holds afterwards are equal in both (a NaN equals a NaN);
- *   the result is the refusal that document 01's table, for PGM files, rows, proof rings and whole numbers its change request, has for
+ *   the result is the refusal that the rules' table, for PGM files, rows, proof rings and whole numbers its change request, has for
  *   these sizes, numbers and bytes, or none where there is none; what is read of a PGM file, and written, is what was made; a drawn proof
  *   ring has bytes 0 and 255 only, and marks that are read are those of the bytes at the cells' centres; doubled numbers are twice the
  *   given ones, and vertices and corners in whole numbers are among the points;

@@ -10,7 +10,7 @@
  *   moves large F0 M FM ..    F0 is such a picture, FM it moved by M: as check, with the hull and the quad of whole numbers; and
  *                             how often those of f32 differ from them, and are not moved
  *
- * Compared as document 01 says under "What demand 3 compares". Where two regions of 16 or more cells have equal
+ * Compared as the rules says under "What demand 3 compares". Where two regions of 16 or more cells have equal
  * counts, regions are left out, and it is counted where these come in another order; where a quad's two conditions
  * fail, the quad is left out. Each prints counts.
  */

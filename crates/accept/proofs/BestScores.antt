@@ -7,39 +7,24 @@
 use mathlib.Core.Path.{_≡_, refl, sym, ap, _∙_}
 use mathlib.Core.Bool.{Bool, true, false, cond}
 use mathlib.Core.List.{List}
-use Prim.Native.Nat.{ℕ, suc, _+_, _-_, _%_, _≤_, _<_}
+use Prim.Native.Nat.{ℕ, _+_, _-_, _%_, _≤_, _<_}
 use native.Mathlib.Nat.{sub-zero}
 use borrow.Author.Tests.{eq-eqb, ne-eqb}
 use lib.Dec.{eqb}
 use lib.Ieee.{Float}
+use Rattle.ieee.specs.Constants.{0f}
 use Rattle.laws.proofs.Steps.{on, done}
 use Rattle.transform.specs.declared.Transform.{Transform}
 use Rattle.transform.specs.declared.Mapped.{Mapped}
 use Rattle.transform.specs.declared.Mapped.the-variants.{None, Some}
 use Rattle.lcr_core.specs.Version.{sideOf}
-use Rattle.hull.specs.Points.{0f}
 use Rattle.hull.specs.declared.points.Quad.{Quad}
 use Rattle.fit.specs.F32.{_⊖_}
 use Rattle.lens.specs.declared.straight.Lens.{Lens}
 use Rattle.search.specs.Geometry.{transformOf}
 use Rattle.search.specs.declared.versions.Score.{Score}
 use Rattle.search.specs.declared.versions.Scores.{Scores}
-use Rattle.accept.specs.Accept.{
-  placeAt,
-  laterOf,
-  bestOn,
-  bestOf,
-  otherOf,
-  runnerOn,
-  runnerOf,
-  passesOf,
-  turnedOf,
-  fixedBy,
-  fixOf,
-  chosenOf,
-  acceptOf,
-}
-use Rattle.accept.specs.declared.Fix.{Fix}
+use Rattle.accept.specs.Accept.{placeAt, laterOf, bestOn, bestPlace, otherOf, runnerOn, runnerOf, passesOf, turnedOf, fixedBy, fixOf, chosenOf, acceptOf}
 use Rattle.accept.specs.declared.Fixed.{Fixed}
 use Rattle.accept.specs.declared.Fixed.the-variants.{At, NoFix}
 
@@ -105,14 +90,14 @@ module _ (q : Quad) (s : Scores) (best : ℕ) (l : Lens) (relaxed : Bool) (runne
   choose-no e = choose-by false e
 
 module _ (q : Quad) (s : Scores) (l : Lens) (relaxed : Bool) where
-  accept-by : (b : Bool) → eqb (s .many) 0 ≡ b → cond b NoFix (chosenOf q s (bestOf s) l relaxed) ≡ acceptOf q s l relaxed
+  accept-by : (b : Bool) → eqb (s .many) 0 ≡ b → cond b NoFix (chosenOf q s (bestPlace s) l relaxed) ≡ acceptOf q s l relaxed
   unfolding acceptOf
-  accept-by b e = sym (ap (λ (b : Bool). cond b NoFix (chosenOf q s (bestOf s) l relaxed)) e)
+  accept-by b e = sym (ap (λ (b : Bool). cond b NoFix (chosenOf q s (bestPlace s) l relaxed)) e)
 
   pub accept-none : s .many ≡ 0 → NoFix ≡ acceptOf q s l relaxed
   accept-none e = accept-by true (eq-eqb (s .many) 0 e)
 
-  pub accept-some : (best : ℕ) (r : Fixed) → (s .many ≡ 0 → ⊥) → best ≡ bestOf s → r ≡ chosenOf q s best l relaxed
+  pub accept-some : (best : ℕ) (r : Fixed) → (s .many ≡ 0 → ⊥) → best ≡ bestPlace s → r ≡ chosenOf q s best l relaxed
       → r ≡ acceptOf q s l relaxed
   accept-some best r n e er =
       er ∙ ap (λ (k : ℕ). chosenOf q s k l relaxed) e ∙ accept-by false (ne-eqb (s .many) 0 n)

@@ -4,11 +4,9 @@ use mathlib.Core.Bool.{true, false}
 use Prim.Native.Nat.{ℕ}
 use lib.IntN.{pos}
 use lib.Ieee.{binary32, ofInt, ofBits, div, round, lt, le, eq}
-use Rattle.ieee.specs.Constants.{0·08, 0·2, 0·85}
-use Rattle.hull.specs.Points.{0f}
+use Rattle.ieee.specs.Constants.{0f, 0·08, 0·2, 0·85, 1f}
 use Rattle.hull.specs.declared.points.Point.{Point}
 use Rattle.hull.specs.declared.points.Quad.{Quad}
-use Rattle.fit.specs.F32.{1f}
 use Rattle.marks.specs.Correlate.{score}
 use Rattle.accept.specs.Accept.{passesOf, cornerAt, turnedOf}
 

@@ -7,11 +7,10 @@ use lib.Dec.{eqb}
 use lib.Ieee.{Float, nan, binary32, le, ofBits}
 use lib.ListN.{getD}
 use Rattle.ieee.specs.Ops.{before, max}
-use Rattle.ieee.specs.Constants.{0·08, 0·2, 0·85}
+use Rattle.ieee.specs.Constants.{0f, 0·08, 0·2, 0·85}
 use Rattle.transform.specs.declared.Mapped.{Mapped}
 use Rattle.transform.specs.declared.Mapped.the-variants.{None, Some}
 use Rattle.lcr_core.specs.Version.{sideOf}
-use Rattle.hull.specs.Points.{0f}
 use Rattle.hull.specs.declared.points.Point.{Point}
 use Rattle.hull.specs.declared.points.Quad.{Quad}
 use Rattle.fit.specs.F32.{_⊖_}
@@ -19,7 +18,6 @@ use Rattle.lens.specs.declared.straight.Lens.{Lens}
 use Rattle.search.specs.Geometry.{transformOf}
 use Rattle.search.specs.declared.versions.Score.{Score}
 use Rattle.search.specs.declared.versions.Scores.{Scores}
-use Rattle.accept.specs.declared.Fix.{Fix}
 use Rattle.accept.specs.declared.Fixed.{Fixed}
 use Rattle.accept.specs.declared.Fixed.the-variants.{At, NoFix}
 
@@ -45,8 +43,8 @@ bestOn list zero k b = b
 bestOn list (suc d) k b = bestOn list d (k + 1) (laterOf list b k)
 
 -- The last place of the greatest score.
-abbrev pub bestOf : Scores → ℕ
-bestOf s = bestOn (s .list) (s .many - 1) 1 0
+abbrev pub bestPlace : Scores → ℕ
+bestPlace s = bestOn (s .list) (s .many - 1) 1 0
 
 -- The greater of a number and the score at k, unless k is the best place.
 unfoldable pub otherOf : List Score → ℕ → ℕ → Float → Float
@@ -106,4 +104,4 @@ chosenOf q s best l relaxed =
 
 -- The best score as a fix, where it passes; none without a score.
 unfoldable pub acceptOf : Quad → Scores → Lens → Bool → Fixed
-acceptOf q s l relaxed = cond (eqb (s .many) 0) NoFix (chosenOf q s (bestOf s) l relaxed)
+acceptOf q s l relaxed = cond (eqb (s .many) 0) NoFix (chosenOf q s (bestPlace s) l relaxed)

@@ -9,7 +9,7 @@ use transform::Mapped;
 use transform::Transform;
 ghost use mathlib.Core.Path.{_≡_};
 ghost use Prim.Native.Nat.{_<_, _≤_};
-ghost use Rattle.accept.specs.Accept.{laterOf, bestOf, otherOf, runnerOf, atLeast, passesOf};
+ghost use Rattle.accept.specs.Accept.{laterOf, bestPlace, otherOf, runnerOf, atLeast, passesOf};
 ghost use Rattle.accept.specs.Accept.{cornerAt, turnedOf, fixedBy, fixOf, chosenOf, acceptOf};
 
 // A located ring: its version, the transform from module space to pixels with orientation and
@@ -46,7 +46,7 @@ fn later(list: [Score; 64], best: usize, k: usize) -> usize
 // The last place of the greatest score.
 fn best_of(s: Scores) -> usize
     requires { ⌜ s .many ≤ 64 ⌝ }
-    ensures { λ r. ⌜ (r ≡ bestOf s) × (r < 64) ⌝ }
+    ensures { λ r. ⌜ (r ≡ bestPlace s) × (r < 64) ⌝ }
 {
     let list = s.list;
     let many = s.many;

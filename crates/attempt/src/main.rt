@@ -1,5 +1,5 @@
 // Reads an attempt from standard input and writes its trace as text: see crate `attempt_text`.
-ghost use Rattle.packed.specs.Rooms.{HasPlaces};
+ghost use Rattle.word_bytes.specs.Inner.{HasPlaces};
 use libc::STDIN_FILENO;
 use libc::STDOUT_FILENO;
 

@@ -1,7 +1,7 @@
 -- Closed cases whose answers come from the stored text of the program `attempt` and from the record's checks: two floats of its lines, a
 -- NaN, `fix none`, and the text of a record that is short. By computation. Assumes nothing.
 use mathlib.Core.Path.{_≡_, refl}
-use mathlib.Core.List.{List, [], _∷_}
+use mathlib.Core.List.{[], _∷_}
 use lib.Ieee.{nan, binary32, binary64, ofBits, toBits, isNan}
 use Rattle.text.specs.Text.{spelt, decimal, hex, hexDigit, spaced, lineOf}
 use Rattle.accept.specs.declared.Fixed.the-variants.{NoFix}

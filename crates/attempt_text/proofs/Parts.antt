@@ -1,12 +1,12 @@
 -- What stands in a line, stored. Digits: count-few, small-few. A float: nan-stored, hex-stored. Floats one after the other: each-begin,
 -- each-turn, each-end. Assumes nothing.
-use mathlib.Core.Path.{_≡_, refl, sym, ap, _∙_, subst}
+use mathlib.Core.Path.{_≡_, refl, sym, ap, _∙_}
 use mathlib.Core.Bool.{Bool, true, false, cond}
 use mathlib.Core.List.{List, [], _∷_, _++_, append-assoc, append-nil}
-use Prim.Native.Nat.{ℕ, zero, suc, _+_, _≤_, _<_}
+use Prim.Native.Nat.{ℕ, _+_, _≤_, _<_}
 use native.Mathlib.Numerals.{add-one}
 use native.Mathlib.Omega.{arith}
-use lib.Ieee.{Float, Format, nan, ne, isNan, toBits}
+use lib.Ieee.{Float, Format, nan, ne, toBits}
 use lib.ListN.{length, getD, take}
 use lib.Seq.{take-suc, take-all}
 use Rattle.laws.specs.Lent.{Stored}

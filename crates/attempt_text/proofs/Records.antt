@@ -1,20 +1,19 @@
 -- The record's checks one by one: refuse-short, refuse-many, refuse-pixels, refuse-numbers, check-passes; what an accepted record has:
 -- Accepted, accepted. Its numbers: read-begin, read-turn, read-end. Assumes nothing.
-use mathlib.Core.Path.{_≡_, refl, sym, ap, _∙_, subst}
+use mathlib.Core.Path.{_≡_, sym, ap, _∙_}
 use mathlib.Core.List.{List, [], _∷_, _++_, append-nil}
-use Prim.Native.Nat.{ℕ, zero, suc, _+_, _*_, _≤_, _<_}
-use native.Mathlib.Numerals.{add-one}
+use Prim.Native.Nat.{ℕ, _+_, _*_, _≤_, _<_}
 use native.Mathlib.Omega.{arith}
 use borrow.Author.Tests.{leb-true, le-leb, lt-leb}
 use lib.Dec.{leb}
 use lib.Ieee.{Float, binary32, ofBits}
-use lib.ListN.{length, set, drop, length-append, drop-of-length-le}
+use lib.ListN.{length, set, drop-of-length-le}
 use Rattle.laws.specs.Fold.{joined}
 use Rattle.laws.specs.Lent.{Stored}
 use Rattle.laws.proofs.Joined.{joined-more}
 use Rattle.laws.proofs.Stores.{stored-none, stored-one, stored-append, stored-ext, stored-laid}
-use Rattle.checks.proofs.Checked.{check-step}
-use Rattle.packed.specs.Words.{wordAt}
+use Rattle.picture_checks.proofs.Checked.{check-step}
+use Rattle.word_bytes.specs.Words.{wordAt}
 use Rattle.attempt_text.specs.Attempt.{pixelCount, numberCount, checkAttempt, floatsAt}
 
 -- ---- the checks

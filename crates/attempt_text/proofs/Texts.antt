@@ -1,15 +1,13 @@
 -- The lines of a trace, stored piece by piece: counted-stored; found-quad, no-quad; score-stored; list-begin, list-turn; scores-stored;
 -- ring-fixed, no-ring; trace-stored; given-text, refused-text. Assumes nothing.
-use mathlib.Core.Path.{_≡_, refl, sym, ap, _∙_, subst}
-use mathlib.Core.Bool.{Bool}
+use mathlib.Core.Path.{_≡_, refl, sym, ap, _∙_}
 use mathlib.Core.List.{List, [], _∷_, _++_, append-nil}
-use Prim.Native.Nat.{ℕ, zero, suc, _+_, _≤_, _<_}
-use lib.Ieee.{Float}
+use Prim.Native.Nat.{ℕ, _+_}
 use Rattle.laws.specs.Fold.{joined, bit}
 use Rattle.laws.specs.Lent.{Stored}
 use Rattle.laws.proofs.Joined.{joined-more}
 use Rattle.laws.proofs.Stores.{stored-none, stored-append, stored-ext}
-use Rattle.text.specs.Text.{decimal, spaced, lineOf, refusedWord, quadWord, noneWord}
+use Rattle.text.specs.Text.{spaced, lineOf, refusedWord, quadWord, noneWord}
 use Rattle.hull.specs.Quad.{valuesOf}
 use Rattle.hull.specs.declared.points.Quad.{Quad}
 use Rattle.hull.specs.declared.points.Corners.{Corners}

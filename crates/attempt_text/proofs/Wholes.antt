@@ -1,6 +1,6 @@
 -- The text of a record. The door's answer to what a record says: answer-said. The record's parts: pixels-part, points-part. Its text:
 -- text-accepted, text-refused; in its place, filled-is. Assumes nothing.
-use mathlib.Core.Path.{_≡_, refl, sym, ap, ap₂, _∙_, subst}
+use mathlib.Core.Path.{_≡_, refl, sym, ap, ap₂, _∙_}
 use mathlib.Core.List.{List, [], _∷_, _++_}
 use Prim.Native.Nat.{ℕ, zero, suc, _+_, _-_, _≤_}
 use native.Mathlib.Omega.{arith}
@@ -9,12 +9,12 @@ use lib.ListN.{length, take, drop, replicate, length-replicate}
 use lib.Seq.{take-at}
 use Rattle.laws.specs.Lent.{Stored}
 use Rattle.laws.proofs.Stores.{stored-laid}
-use Rattle.packed.specs.Words.{wordAt}
-use Rattle.packed.proofs.Places.{front}
+use Rattle.word_bytes.specs.Words.{wordAt}
+use Rattle.word_bytes.proofs.Places.{front}
 use Rattle.text.specs.Text.{lineOf, refusedWord}
 use Rattle.ring.specs.Door.{answerOf}
 use Rattle.ring.specs.declared.door.Answer.{Answer}
-use Rattle.attempt_text.specs.Attempt.{pixelCount, numberCount, checkAttempt, pixelsOf, floatsAt, pointsOf}
+use Rattle.attempt_text.specs.Attempt.{pixelCount, numberCount, checkAttempt, recordPixels, floatsAt, pointsOf}
 use Rattle.attempt_text.specs.Traced.{answerText, textBy, textOf, filled}
 
 -- ---- the door's answer
@@ -32,7 +32,7 @@ module _ (s gray : List ℕ) (points : List Float) where
       ∙ ap₂ (λ (x y : ℕ). answerTo (wordAt s 0) (wordAt s 4) (wordAt s 8) 32770 x y) (sym eb) (sym ec)
 
 -- ---- the parts
-pub pixels-part : (s : List ℕ) (n : ℕ) → n ≡ pixelCount s → take (20 + n - 20) (drop 20 s) ≡ pixelsOf s
+pub pixels-part : (s : List ℕ) (n : ℕ) → n ≡ pixelCount s → take (20 + n - 20) (drop 20 s) ≡ recordPixels s
 pixels-part s n e =
     let z : 20 + n - 20 ≡ pixelCount s = omega (arith, e) in
     ap (λ (k : ℕ). take k (drop 20 s)) z
@@ -45,7 +45,7 @@ points-part s n m room last en em within held is =
     ∙ ap₂ (λ (i k : ℕ). floatsAt s (20 + i) k) en (sym (front m room within) ∙ em)
 
 -- ---- the text
-pub text-accepted : (s gray : List ℕ) (points : List Float) → checkAttempt s ≡ 0 → gray ≡ pixelsOf s → points ≡ pointsOf s
+pub text-accepted : (s gray : List ℕ) (points : List Float) → checkAttempt s ≡ 0 → gray ≡ recordPixels s → points ≡ pointsOf s
     → answerText (answerOf gray (wordAt s 0) (wordAt s 4) points (wordAt s 8) 32770 32770 32770) ≡ textOf s
 text-accepted s gray points z eg ep =
     ap₂ (λ (g : List ℕ) (p : List Float). answerText (answerOf g (wordAt s 0) (wordAt s 4) p (wordAt s 8) 32770 32770 32770)) eg ep
@@ -53,7 +53,7 @@ text-accepted s gray points z eg ep =
     ∙ ap (λ (n : ℕ). textBy n s) (sym z)
     ∙ whole
   where
-    given : answerText (answerOf (pixelsOf s) (wordAt s 0) (wordAt s 4) (pointsOf s) (wordAt s 8) 32770 32770 32770) ≡ textBy 0 s
+    given : answerText (answerOf (recordPixels s) (wordAt s 0) (wordAt s 4) (pointsOf s) (wordAt s 8) 32770 32770 32770) ≡ textBy 0 s
     given = unfold textBy in refl
 
     whole : textBy (checkAttempt s) s ≡ textOf s

@@ -1,5 +1,4 @@
--- The record that the program `attempt` reads: a call of the ring door, whose arguments and checks document 01 has under "Doors and their
--- checks", in bytes. Five words come first, then the picture's bytes, then the words of the list of points. A word is four bytes, the
+-- The record that the program `attempt` reads: a call of the ring door, in bytes. Five words come first, then the picture's bytes, then the words of the list of points. A word is four bytes, the
 -- lowest first. Definitions only. Assumes nothing.
 use mathlib.Core.List.{List, [], _∷_}
 use Prim.Native.Nat.{ℕ, _+_, _*_, min}
@@ -8,7 +7,7 @@ use lib.Ieee.{Float, binary32, ofBits}
 use lib.ListN.{length, take, drop}
 use Rattle.laws.specs.Check.{orRefuse}
 use Rattle.laws.specs.Fold.{joined}
-use Rattle.packed.specs.Words.{wordAt}
+use Rattle.word_bytes.specs.Words.{wordAt}
 
 -- The five words: width, height, greatest version, how many bytes of the picture follow, and how many numbers of the list.
 abbrev pub widthOf : List ℕ → ℕ
@@ -37,8 +36,8 @@ checkAttempt s =
     0)))
 
 -- The picture's bytes.
-abbrev pub pixelsOf : List ℕ → List ℕ
-pixelsOf s = take (pixelCount s) (drop 20 s)
+abbrev pub recordPixels : List ℕ → List ℕ
+recordPixels s = take (pixelCount s) (drop 20 s)
 
 -- The n f32 numbers whose bits are the words from place i on. A pattern that is no number's is a NaN.
 unfoldable pub floatsAt : List ℕ → ℕ → ℕ → List Float

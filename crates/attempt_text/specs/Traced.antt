@@ -1,16 +1,16 @@
--- An attempt as text, over the ring door's definition: `refused N`, or the lines of the trace, as document 01 has it under "Trace". Floats
+-- An attempt as text, over the ring door's definition: `refused N`, or the lines of the trace, by rules 33 to 36. Floats
 -- are the hex of their bits, or `nan`. Definitions only. Assumes nothing.
 use mathlib.Core.Bool.{cond}
 use mathlib.Core.List.{List, [], _∷_, _++_}
 use Prim.Native.Nat.{ℕ, zero, suc}
 use lib.Ieee.{Float, Format, binary32, binary64, isNan, toBits}
 use lib.ListN.{length, drop, replicate}
+use Rattle.transform.specs.Mapping.{elevenOf}
 use Rattle.laws.specs.Fold.{joined, bit}
 use Rattle.text.specs.Text.{decimal, hex, lineOf, refusedWord, quadWord, noneWord}
 use Rattle.hull.specs.Quad.{valuesOf}
 use Rattle.hull.specs.declared.points.Corners.{Corners}
 use Rattle.hull.specs.declared.points.Corners.the-variants.{Found, NoQuad}
-use Rattle.transform.specs.declared.Transform.{Transform}
 use Rattle.search.specs.declared.versions.Score.{Score}
 use Rattle.search.specs.declared.versions.Scores.{Scores}
 use Rattle.accept.specs.Accept.{placeAt}
@@ -22,7 +22,7 @@ use Rattle.ring.specs.declared.quads.Trace.{Trace}
 use Rattle.ring.specs.declared.door.Answer.{Answer}
 use Rattle.ring.specs.declared.door.Outcome.{Outcome}
 use Rattle.ring.specs.declared.door.Outcome.the-variants.{Given, Refused}
-use Rattle.attempt_text.specs.Attempt.{widthOf, heightOf, greatestOf, pixelsOf, pointsOf, checkAttempt}
+use Rattle.attempt_text.specs.Attempt.{widthOf, heightOf, greatestOf, recordPixels, pointsOf, checkAttempt}
 
 -- ---- the words
 -- hull
@@ -97,13 +97,9 @@ unfoldable pub scoresText : Scores → List ℕ
 scoresText s = lineOf scoresWord (s .many ∷ []) ++ scoreLines (s .list) (s .many)
 
 -- A transform's eleven numbers: its matrix, the lens's centre and its coefficient.
-abbrev pub mapValues : Transform → List Float
-mapValues t =
-    t .m0 ∷ t .m1 ∷ t .m2 ∷ t .m3 ∷ t .m4 ∷ t .m5 ∷ t .m6 ∷ t .m7 ∷ t .cx ∷ t .cy ∷ t .kappa ∷ []
-
 -- A ring: version, agreement and transform.
 abbrev pub ringText : Fix → List ℕ
-ringText f = number (f .version) ++ (single (f .agreement) ++ (each double (mapValues (f .map)) ++ end))
+ringText f = number (f .version) ++ (single (f .agreement) ++ (each double (elevenOf (f .map)) ++ end))
 
 -- A word, and a ring or none.
 unfoldable pub fixText : List ℕ → Fixed → List ℕ
@@ -131,7 +127,7 @@ answerText a = outcomeText (a .outcome) (a .trace)
 -- A record that is refused with the number n, or the door's answer where n is 0; its working lists have 32,770 places.
 unfoldable pub textBy : ℕ → List ℕ → List ℕ
 textBy zero s =
-    answerText (answerOf (pixelsOf s) (widthOf s) (heightOf s) (pointsOf s) (greatestOf s) 32770 32770 32770)
+    answerText (answerOf (recordPixels s) (widthOf s) (heightOf s) (pointsOf s) (greatestOf s) 32770 32770 32770)
 textBy (suc n) s = lineOf refusedWord (suc n ∷ [])
 
 unfoldable pub textOf : List ℕ → List ℕ

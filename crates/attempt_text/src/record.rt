@@ -1,6 +1,6 @@
 // The record: five words, the picture's bytes, the words of the list of points.
-use packed::word_at;
-use words::floats;
+use word_bytes::word_at;
+use word_numbers::floats;
 ghost use mathlib.Core.Path.{_≡_};
 ghost use Prim.Native.Nat.{_<_, _≤_};
 ghost use lib.ListN.{length};
@@ -10,14 +10,14 @@ ghost use Rattle.attempt_text.specs.Attempt.{pixelCount, numberCount, ch
 pub(crate) fn pixel_count(s: &[u8]) -> usize
     ensures { λ r. ⌜ (r ≡ pixelCount (now (s .entry))) × (r < 4294967296) ⌝ }
 {
-    words::many(word_at(s, 12))
+    word_numbers::many(word_at(s, 12))
 }
 
 // How many numbers of the list are read.
 pub(crate) fn number_count(s: &[u8]) -> usize
     ensures { λ r. ⌜ (r ≡ numberCount (now (s .entry))) × (r ≤ 32770) ⌝ }
 {
-    let n = words::many(word_at(s, 16));
+    let n = word_numbers::many(word_at(s, 16));
     if 32770 < n {
         return 32770;
     }

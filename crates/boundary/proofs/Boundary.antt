@@ -1,19 +1,20 @@
--- The boundary points of a moved region: each point as often as the one that goes there. Assumes nothing.
+-- The boundary points of a moved region: each point as often as the one that goes there.
+--     how often: often-append, often-joined
+--     the mirror: Within
+--     every move: boundary-same, box-within, boundary-move
+-- Assumes nothing.
 use mathlib.Core.Path.{_≡_, refl, sym, ap, ap₂, _∙_}
-use mathlib.Core.Bool.{Bool, true, false, _&&_, cond}
+use mathlib.Core.Bool.{Bool, true, false, cond}
 use mathlib.Core.List.{List, [], _∷_, _++_, map}
 use Prim.Native.Nat.{ℕ, zero, suc, _+_, _-_, _*_, _≤_, _<_}
 use native.Mathlib.Omega.{arith}
 use native.Mathlib.Nat.{add-comm, add-assoc, zero-add}
 use lib.Dec.{ltb}
 use lib.IntN.{ℤ, pos}
-use borrow.Author.Tests.{ltb-true}
 use Rattle.laws.specs.Fold.{fold, sumTo, bit, joined}
 use Rattle.laws.specs.Move.{Move, still, flipped, turned, sidesOf, wideOf, highOf, placeOf, Box, boxOf}
 use Rattle.laws.proofs.Bools.{bool-ext}
 use Rattle.laws.proofs.Folds.{fold-ext, fold-reverse}
-use Rattle.laws.proofs.Moves.{place-within, backOf, back-within, place-back}
-use Rattle.whole.specs.Numbers.{_⊕_, neg}
 use Rattle.whole.specs.Points.{Pt}
 use Rattle.whole.specs.Hull.{samePt}
 use Rattle.whole.specs.Moves.{quarter, mirror}
@@ -21,9 +22,9 @@ use Rattle.whole.proofs.Sums.{sub-nat}
 use Rattle.whole.proofs.Run.{same-true, same-refl}
 use Rattle.whole.proofs.Moved.{flips-mirror, inj}
 use Rattle.boundary.specs.Runs.{runStart, runEnd, edges}
-use Rattle.boundary.specs.Boundary.{across, down, rowPoints, columnPoints, rowsFrom, columnsFrom, boundary}
+use Rattle.boundary.specs.Boundary.{onRow, onColumn, rowPoints, columnPoints, rowsFrom, columnsFrom, boundary}
 use Rattle.hull.specs.Points.{ptOf, ptsOf}
-use Rattle.whole.specs.Moves.{often, pointOf}
+use Rattle.whole.specs.Moves.{often, movedPoint}
 use Rattle.laws.proofs.Joined.{joined-ext}
 use Rattle.boundary.proofs.Runs.{start-mirror, end-mirror, both-ends, start-le, run-end-le, edges-ext}
 
@@ -86,12 +87,12 @@ transposed t x y = t y x
 boxT : Box → Box
 boxT b = record { x0 = b .y0; y0 = b .x0; x1 = b .y1; y1 = b .x1 }
 
-often-turn : (q : Pt) (c : ℕ) (E : List ℕ) → often (swap q) (ptsOf (map (across c) E)) ≡ often q (ptsOf (map (down c) E))
+often-turn : (q : Pt) (c : ℕ) (E : List ℕ) → often (swap q) (ptsOf (map (onRow c) E)) ≡ often q (ptsOf (map (onColumn c) E))
 unfolding often swap ptOf
 often-turn q c [] = refl
 often-turn q c (e ∷ E) = ap₂ (λ (x y : ℕ). x + y) (ap bit (same-swap q (ptOf (c, e)))) (often-turn q c E)
 
-often-turn′ : (q : Pt) (c : ℕ) (E : List ℕ) → often (swap q) (ptsOf (map (down c) E)) ≡ often q (ptsOf (map (across c) E))
+often-turn′ : (q : Pt) (c : ℕ) (E : List ℕ) → often (swap q) (ptsOf (map (onColumn c) E)) ≡ often q (ptsOf (map (onRow c) E))
 unfolding often swap ptOf
 often-turn′ q c [] = refl
 often-turn′ q c (e ∷ E) = ap₂ (λ (x y : ℕ). x + y) (ap bit (same-swap q (ptOf (e, c)))) (often-turn′ q c E)
@@ -113,7 +114,7 @@ boundary-transpose q k t b =
 -- ---- the mirror
 -- a row read backwards has its two points exchanged
 row-mirror : (q : Pt) (c k n w s s′ : ℕ) (t u : ℕ → Bool) → s + n ≤ w → s′ ≡ w - (s + n) → ((i : ℕ) → i < n → u i ≡ t (n - 1 - i))
-    → often (mirror (pos (2 * w)) q) (ptsOf (map (across c) (edges k n u s′))) ≡ often q (ptsOf (map (across c) (edges k n t s)))
+    → often (mirror (pos (2 * w)) q) (ptsOf (map (onRow c) (edges k n u s′))) ≡ often q (ptsOf (map (onRow c) (edges k n t s)))
 unfolding edges
 row-mirror q c k n w s s′ t u room at same =
     rw (start-mirror k n t u same, end-mirror k n t u same, both-ends k n t) (go (ltb (runStart k n t) n))
@@ -127,8 +128,8 @@ row-mirror q c k n w s s′ t u room at same =
     fits w s n s′ E a b l = omega arith
 
     go : (z : Bool) → often (mirror (pos (2 * w)) q)
-        (ptsOf (map (across c) (cond z (2 * (s′ + (n - runEnd k n t)) ∷ 2 * (s′ + (n - runStart k n t)) ∷ []) [])))
-        ≡ often q (ptsOf (map (across c) (cond z (2 * (s + runStart k n t) ∷ 2 * (s + runEnd k n t) ∷ []) [])))
+        (ptsOf (map (onRow c) (cond z (2 * (s′ + (n - runEnd k n t)) ∷ 2 * (s′ + (n - runStart k n t)) ∷ []) [])))
+        ≡ often q (ptsOf (map (onRow c) (cond z (2 * (s + runStart k n t) ∷ 2 * (s + runEnd k n t) ∷ []) [])))
     go false = unfold often in refl
     go true =
         let e = run-end-le k n t in
@@ -139,7 +140,7 @@ row-mirror q c k n w s s′ t u room at same =
         unfold often in omega (arith, a, b)
 
 column-mirror : (q : Pt) (w c : ℕ) (E : List ℕ) → c < w
-    → often (mirror (pos (2 * w)) q) (ptsOf (map (down (2 * (w - 1 - c) + 1)) E)) ≡ often q (ptsOf (map (down (2 * c + 1)) E))
+    → often (mirror (pos (2 * w)) q) (ptsOf (map (onColumn (2 * (w - 1 - c) + 1)) E)) ≡ often q (ptsOf (map (onColumn (2 * c + 1)) E))
 unfolding often
 column-mirror q w c [] l = refl
 column-mirror q w c (e ∷ E) l =
@@ -184,7 +185,7 @@ module _ (q : Pt) (k w h : ℕ) (t u : ℕ → ℕ → Bool) (b : Box) (in′ : 
           ≡ often q (ptsOf (rowPoints k t (b .x0) (b .x1 - b .x0) (b .y0 + j)))
       rows j l =
           ap (λ (n : ℕ). often (mirror (pos (2 * w)) q)
-          (ptsOf (map (across (2 * (b .y0 + j) + 1)) (edges k n (λ i. u (w - b .x1 + i) (b .y0 + j)) (w - b .x1))))) (sym side)
+          (ptsOf (map (onRow (2 * (b .y0 + j) + 1)) (edges k n (λ i. u (w - b .x1 + i) (b .y0 + j)) (w - b .x1))))) (sym side)
           ∙ row-mirror q (2 * (b .y0 + j) + 1) k (b .x1 - b .x0) w (b .x0) (w - b .x1) (λ i. t (b .x0 + i) (b .y0 + j))
           (λ i. u (w - b .x1 + i) (b .y0 + j))
           (room (b .x0) (b .x1) w (in′ .across′) (in′ .wide)) (start (b .x0) (b .x1) w (in′ .across′))
@@ -214,8 +215,8 @@ module _ (q : Pt) (k w h : ℕ) (t u : ℕ → ℕ → Bool) (b : Box) (in′ : 
           let e : w - b .x1 + i ≡ w - 1 - X = at (b .x0) (b .x1) w i (in′ .wide) l in
           let lt : X < w = less (b .x0) (b .x1) w i (in′ .wide) l in
           ap (λ (x : ℕ). often (mirror (pos (2 * w)) q)
-          (ptsOf (map (down (2 * x + 1)) (edges k (b .y1 - b .y0) (λ j. u x (b .y0 + j)) (b .y0))))) e
-          ∙ ap (λ (E : List ℕ). often (mirror (pos (2 * w)) q) (ptsOf (map (down (2 * (w - 1 - X) + 1)) E)))
+          (ptsOf (map (onColumn (2 * x + 1)) (edges k (b .y1 - b .y0) (λ j. u x (b .y0 + j)) (b .y0))))) e
+          ∙ ap (λ (E : List ℕ). often (mirror (pos (2 * w)) q) (ptsOf (map (onColumn (2 * (w - 1 - X) + 1)) E)))
           (edges-ext k (b .y1 - b .y0) (λ j. u (w - 1 - X) (b .y0 + j)) (λ j. t X (b .y0 + j)) (b .y0)
           (λ j lj. same (w - 1 - X) (b .y0 + j) (omega arith) (in-h (b .y0) (b .y1) h j (in′ .high) lj)
           ∙ ap (λ (x : ℕ). t x (b .y0 + j)) (twice w X lt)))
@@ -242,12 +243,12 @@ boundary-same k w h t u b in′ same =
     ap₂ (λ (l m : List (ℕ × ℕ)). l ++ m)
     (joined-ext (b .y1 - b .y0) (λ j. rowPoints k u (b .x0) (b .x1 - b .x0) (b .y0 + j))
     (λ j. rowPoints k t (b .x0) (b .x1 - b .x0) (b .y0 + j))
-    (λ j lj. ap (map (across (2 * (b .y0 + j) + 1)))
+    (λ j lj. ap (map (onRow (2 * (b .y0 + j) + 1)))
     (edges-ext k (b .x1 - b .x0) (λ i. u (b .x0 + i) (b .y0 + j)) (λ i. t (b .x0 + i) (b .y0 + j)) (b .x0)
     (λ i li. same (b .x0 + i) (b .y0 + j) (in-s (b .x0) (b .x1) w i (in′ .wide) li) (in-s (b .y0) (b .y1) h j (in′ .high) lj)))))
     (joined-ext (b .x1 - b .x0) (λ i. columnPoints k u (b .y0) (b .y1 - b .y0) (b .x0 + i))
     (λ i. columnPoints k t (b .y0) (b .y1 - b .y0) (b .x0 + i))
-    (λ i li. ap (map (down (2 * (b .x0 + i) + 1)))
+    (λ i li. ap (map (onColumn (2 * (b .x0 + i) + 1)))
     (edges-ext k (b .y1 - b .y0) (λ j. u (b .x0 + i) (b .y0 + j)) (λ j. t (b .x0 + i) (b .y0 + j)) (b .y0)
     (λ j lj. same (b .x0 + i) (b .y0 + j) (in-s (b .x0) (b .x1) w i (in′ .wide) li) (in-s (b .y0) (b .y1) h j (in′ .high) lj)))))
   where
@@ -264,8 +265,8 @@ box-within (turned m) w h b i =
 
 pub boundary-move : (m : Move) (w h : ℕ) (q : Pt) (k : ℕ) (t u : ℕ → ℕ → Bool) (b : Box) → Within b w h
     → ((x y : ℕ) → x < w → y < h → u (placeOf m w h x y .0) (placeOf m w h x y .1) ≡ t x y)
-    → often (pointOf m w h q) (ptsOf (boundary k u (boxOf m w h b))) ≡ often q (ptsOf (boundary k t b))
-unfolding boxOf placeOf pointOf boxM boxT quarter mirror swap transposed
+    → often (movedPoint m w h q) (ptsOf (boundary k u (boxOf m w h b))) ≡ often q (ptsOf (boundary k t b))
+unfolding boxOf placeOf movedPoint boxM boxT quarter mirror swap transposed
 boundary-move still w h q k t u b i same = ap (λ (l : List (ℕ × ℕ)). often q (ptsOf l)) (boundary-same k w h t u b i same)
 boundary-move flipped w h q k t u b i same =
     boundary-mirror q k w h t u b i (λ x y lx ly. ap (λ (z : ℕ). u z y) (sym (twice w x lx)) ∙ same (w - 1 - x) y (omega arith) ly)
@@ -273,9 +274,9 @@ boundary-move flipped w h q k t u b i same =
     twice : (w x : ℕ) → x < w → w - 1 - (w - 1 - x) ≡ x
     twice w x l = omega arith
 boundary-move (turned m) w h q k t u b i same =
-    boundary-mirror (swap (pointOf m w h q)) k (highOf m w h) (wideOf m w h) (transposed u₁) u (boxT (boxOf m w h b)) turned-in
+    boundary-mirror (swap (movedPoint m w h q)) k (highOf m w h) (wideOf m w h) (transposed u₁) u (boxT (boxOf m w h b)) turned-in
     (λ x y lx ly. ap (λ (z : ℕ). u z y) (sym (twice (highOf m w h) x lx)))
-    ∙ boundary-transpose (pointOf m w h q) k u₁ (boxOf m w h b)
+    ∙ boundary-transpose (movedPoint m w h q) k u₁ (boxOf m w h b)
     ∙ boundary-move m w h q k t u₁ b i same
   where
     u₁ : ℕ → ℕ → Bool

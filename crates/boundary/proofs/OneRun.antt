@@ -1,16 +1,15 @@
 -- The points of a line that has one run, by its length: `one-short`, a run shorter than the shortest gives nothing; `one-long`, any other
 -- its ends. Assumes nothing.
-use mathlib.Core.Path.{_≡_, refl, sym, ap, _∙_}
+use mathlib.Core.Path.{_≡_}
 use mathlib.Core.Logic.{_⊎_, inl, inr}
-use mathlib.Core.Bool.{Bool, true, false, cond}
-use mathlib.Core.List.{List, [], _∷_}
+use mathlib.Core.Bool.{Bool, true, false}
+use mathlib.Core.List.{[], _∷_}
 use Prim.Native.Nat.{ℕ, _+_, _-_, _*_, _≤_, _<_}
 use native.Mathlib.Omega.{arith}
-use lib.Dec.{ltb}
 use borrow.Author.Tests.{lt-ltb, le-ltb}
 use Rattle.laws.specs.Fold.{first, endOf}
 use Rattle.laws.proofs.Bools.{which}
-use Rattle.laws.proofs.Folds.{first-at, first-none, end-le, end-above, end-holds}
+use Rattle.laws.proofs.Folds.{first-at, first-none, end-above, end-holds}
 use Rattle.boundary.specs.Runs.{inRun, runStart, runEnd, edges, OneRun}
 use Rattle.boundary.proofs.Runs.{IsRun, run-of, run-at}
 

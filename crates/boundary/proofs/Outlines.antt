@@ -8,7 +8,7 @@ use native.Mathlib.Omega.{arith}
 use lib.Dec.{ltb}
 use Rattle.laws.specs.Move.{Box}
 use Rattle.boundary.specs.Runs.{runStart, runEnd, edges}
-use Rattle.boundary.specs.Boundary.{across, down, rowPoints, columnPoints, rowsFrom, columnsFrom, boundary}
+use Rattle.boundary.specs.Boundary.{onRow, onColumn, rowPoints, columnPoints, rowsFrom, columnsFrom, boundary}
 use Rattle.laws.specs.Fold.{joined}
 use Rattle.boundary.proofs.Runs.{start-le, run-end-le}
 use Rattle.boundary.proofs.Boundary.{Within}
@@ -54,7 +54,7 @@ boundary-within k w h t b in′ q m =
         ⊎ List·Memᴰ q (joined (b .x1 - b .x0) (λ i. columnPoints k t (b .y0) (b .y1 - b .y0) (b .x0 + i))) → (q .0 ≤ 2 * w) × (q .1 ≤ 2 * h)
     go (inl u) =
         let r = joined-mem (b .y1 - b .y0) (λ j. rowPoints k t (b .x0) (b .x1 - b .x0) (b .y0 + j)) q u in
-        let s = mapped (across (2 * (b .y0 + r .0) + 1)) (edges k (b .x1 - b .x0) (λ i. t (b .x0 + i) (b .y0 + r .0)) (b .x0)) q (r .2) in (
+        let s = mapped (onRow (2 * (b .y0 + r .0) + 1)) (edges k (b .x1 - b .x0) (λ i. t (b .x0 + i) (b .y0 + r .0)) (b .x0)) q (r .2) in (
           far (b .x0) (b .x1) w (q .0) (in′ .across′) (in′ .wide)
               (omega (
                 arith,
@@ -65,7 +65,7 @@ boundary-within k w h t b in′ q m =
         )
     go (inr u) =
         let r = joined-mem (b .x1 - b .x0) (λ i. columnPoints k t (b .y0) (b .y1 - b .y0) (b .x0 + i)) q u in
-        let s = mapped (down (2 * (b .x0 + r .0) + 1)) (edges k (b .y1 - b .y0) (λ j. t (b .x0 + r .0) (b .y0 + j)) (b .y0)) q (r .2) in (
+        let s = mapped (onColumn (2 * (b .x0 + r .0) + 1)) (edges k (b .y1 - b .y0) (λ j. t (b .x0 + r .0) (b .y0 + j)) (b .y0)) q (r .2) in (
           mid (b .x0) (b .x1) w (r .0) (q .0) (in′ .wide) (r .1) (ap (λ (z : ℕ × ℕ). z .0) (s .2)),
           far (b .y0) (b .y1) h (q .1) (in′ .down′) (in′ .high)
               (omega (

@@ -1,26 +1,26 @@
 -- The boundary points of the kept regions of a moved picture. Assumes nothing.
-use mathlib.Core.Path.{_≡_, refl, sym, ap, ap₂, _∙_}
-use mathlib.Core.Logic.{_⊎_, inl, inr, ⊎-elim}
-use mathlib.Core.Bool.{Bool, true, false, _&&_, _||_, not}
-use Prim.Native.Nat.{ℕ, suc, _+_, _*_, _/_, _≤_, _<_}
+use mathlib.Core.Path.{_≡_, sym, ap, ap₂, _∙_}
+use mathlib.Core.Logic.{⊎-elim}
+use mathlib.Core.Bool.{Bool, _&&_, _||_, not}
+use Prim.Native.Nat.{ℕ, suc, _*_, _/_, _<_}
 use native.Mathlib.Omega.{arith}
 use lib.Dec.{eqb}
 use borrow.Author.Tests.{eq-eqb, ne-eqb, eqb-true}
 use Rattle.laws.specs.Plane.{Plane, Alike}
-use Rattle.laws.specs.Move.{Move, wideOf, highOf, moved, placeOf, Box, boxOf}
-use Rattle.laws.proofs.Bools.{both, and-left, and-right, either, or-left, or-right, which, clash, bool-ext}
+use Rattle.laws.specs.Move.{Move, wideOf, highOf, moved, placeOf, Box}
+use Rattle.laws.proofs.Bools.{both, and-right, either, or-right, bool-ext}
 use Rattle.laws.proofs.Moves.{place-div}
 use Rattle.whole.specs.Points.{Pt}
-use Rattle.levels.specs.Level.{inkAt}
+use Rattle.levels.specs.Level.{inkOf, inkAt}
 use Rattle.levels.proofs.Ink.{ink-of}
-use Rattle.regions.specs.Cells.{cells8, cellsOf, labelAt, groupsOf, groupSize}
+use Rattle.labels.specs.Cells.{cells8, labelAt, groupsOf, groupSize}
 use Rattle.regions.specs.Kept.{keptCount, keptLabel, keptAt}
 use Rattle.regions.specs.Boxes.{regionBox}
 use Rattle.regions.proofs.Kept.{Untied}
 use Rattle.regions.proofs.Regions.{region-of, region-cell, region-in, box-of}
 use Rattle.boundary.specs.Boundary.{memberOf, isMember, boundary, outlineOf}
 use Rattle.hull.specs.Points.{ptsOf}
-use Rattle.whole.specs.Moves.{often, pointOf}
+use Rattle.whole.specs.Moves.{often, movedPoint}
 use Rattle.boundary.proofs.Boundary.{Within, boundary-move}
 
 -- with one label wanted, a member's label is that one
@@ -52,7 +52,7 @@ module _ (m : Move) (W H : ℕ) (posW : 0 < W) (posH : 0 < H) (p p′ : Plane)
 
   member-of : (x y : ℕ) → x < w → y < h
       → isMember p′ w′ h′ (keptLabel p′ w′ h′ i) (placeOf m w h x y .0) (placeOf m w h x y .1) ≡ isMember p w h (keptLabel p w h i) x y
-  unfolding isMember memberOf inkAt keptLabel
+  unfolding isMember memberOf inkOf inkAt keptLabel
   member-of x y lx ly =
       let a = cells8 w in
       let b = cells8 h in
@@ -82,11 +82,11 @@ module _ (m : Move) (W H : ℕ) (posW : 0 < W) (posH : 0 < H) (p p′ : Plane)
 
   -- A point is among the boundary points as often as the point moved there was.
   pub points-of : (k : ℕ) (q : Pt)
-      → often (pointOf m w h q) (ptsOf (outlineOf k p′ w′ h′ (keptLabel p′ w′ h′ i)))
+      → often (movedPoint m w h q) (ptsOf (outlineOf k p′ w′ h′ (keptLabel p′ w′ h′ i)))
       ≡ often q (ptsOf (outlineOf k p w h (keptLabel p w h i)))
   unfolding outlineOf
   points-of k q =
-      ap (λ (z : Box). often (pointOf m w h q) (ptsOf (boundary k (isMember p′ w′ h′ (keptLabel p′ w′ h′ i)) z)))
+      ap (λ (z : Box). often (movedPoint m w h q) (ptsOf (boundary k (isMember p′ w′ h′ (keptLabel p′ w′ h′ i)) z)))
       (box-of m W H posW posH p p′ same untied i l)
       ∙ boundary-move m w h q k (isMember p w h (keptLabel p w h i)) (isMember p′ w′ h′ (keptLabel p′ w′ h′ i))
       (regionBox p w h (keptLabel p w h i)) region-within member-of

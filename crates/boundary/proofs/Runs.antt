@@ -1,14 +1,18 @@
--- Laws of runs: lines that agree have the same, and a line read backwards has first and last exchanged. Assumes nothing.
-use mathlib.Core.Path.{_≡_, refl, sym, ap, ap₂, _∙_}
+-- Laws of runs: lines that agree have the same, and a line read backwards has first and last exchanged.
+--     some-of, some-at, every-of, every-at, IsRun, run-of, run-at
+--     lines that agree: run-ext
+--     a line read backwards: run-mirror
+--     first and last: start-mirror, end-mirror, both-ends, start-le, run-end-le, edges-ext
+-- Assumes nothing.
+use mathlib.Core.Path.{_≡_, refl, sym, ap, _∙_}
 use mathlib.Core.Logic.{_⊎_, inl, inr, ⊎-elim}
-use mathlib.Core.Bool.{Bool, true, false, _&&_, _||_, cond}
-use mathlib.Core.List.{List, [], _∷_}
-use Prim.Native.Nat.{ℕ, zero, suc, _+_, _-_, _*_, _≤_, _<_}
+use mathlib.Core.Bool.{Bool, true, _&&_}
+use Prim.Native.Nat.{ℕ, zero, suc, _+_, _-_, _≤_, _<_}
 use native.Mathlib.Omega.{arith}
 use lib.Dec.{leb, ltb}
-use borrow.Author.Tests.{lt-ltb, ltb-true, le-leb, leb-true, le-ltb, ltb-false}
+use borrow.Author.Tests.{lt-ltb, ltb-true, le-leb, leb-true}
 use Rattle.laws.specs.Fold.{first, endOf}
-use Rattle.laws.proofs.Bools.{both, and-left, and-right, either, or-left, or-right, which, clash, at-or-below, bool-ext}
+use Rattle.laws.proofs.Bools.{both, and-left, and-right, either, or-left, or-right, clash, at-or-below, bool-ext}
 use Rattle.laws.proofs.Folds.{first-le, first-ext, first-holds, first-below, first-turn, end-le, end-ext, end-above, end-holds}
 use Rattle.boundary.specs.Runs.{some, every, runAt, inRun, runStart, runEnd, edges}
 

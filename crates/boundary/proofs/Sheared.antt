@@ -4,13 +4,12 @@
 --     sheared-hull, sheared-quad, sheared-far, sheared-top, sheared-under      the case
 -- Assumes nothing.
 use mathlib.Core.Path.{_≡_, refl, sym, ap, _∙_}
-use mathlib.Core.Logic.{_⊎_, inl, inr, ⊎-elim}
+use mathlib.Core.Logic.{inl, inr, ⊎-elim}
 use mathlib.Core.Bool.{Bool, true, false, _&&_, _||_}
 use mathlib.Core.List.{List, [], _∷_, List·Memᴰ·head, List·Memᴰ·tail}
 use Prim.Native.Nat.{ℕ, _+_}
 use lib.Dec.{leb, ltb}
 use lib.IntN.{ℤ, pos, negsuc}
-use lib.Ieee
 use lib.Ieee.{ofBits, round, add, sub, mul, lt, le, eq, isNan}
 use Rattle.laws.specs.Fold.{first, endOf, joined}
 use Rattle.laws.specs.Move.{Box}
@@ -23,7 +22,7 @@ use Rattle.whole.specs.Quad.{Top, Far, OneTop}
 use Rattle.whole.proofs.Sums.{⊕-comm, neg-⊕, neg-neg}
 use Rattle.whole.proofs.Ord.{nn≡, pp≡, pnn}
 use Rattle.whole.proofs.Run.{same-true, same-false}
-use Rattle.whole.specs.Wrap.{sel, lst, nxt, wlk, wrap, keep, fars, ends, iquad}
+use Rattle.whole.specs.Walk.{bestWith, lowestWith, nextWith, walkWith, hullWith, keep, farthestWith, ends, quadWith}
 use Rattle.boundary.specs.Runs.{some, every, runAt, inRun, runStart, runEnd, edges}
 use Rattle.boundary.specs.Boundary.{rowPoints, columnPoints, rowsFrom, columnsFrom, boundary}
 use Rattle.hull.specs.Points.{ptOf, ptsOf, halfOf, numbersOf, floatsOf}
@@ -104,12 +103,12 @@ vertices = (0, 1) ∷ (7, 0) ∷ (15, 0) ∷ (30, 15) ∷ (23, 16) ∷ (15, 16) 
 
 sheared-hull : hullPoints (boundary 4 sheared frame) ≡ vertices
 unfolding vertices sheared frame boundary rowsFrom columnsFrom joined rowPoints columnPoints edges runStart runEnd first endOf inRun runAt
-    some every hullPoints hullOf wrap wlk nxt sel lst betterAt lowerAt sameAt crossAt d2At floatsOf numbersOf halfOf before sign isNan lt eq
+    some every hullPoints hullOf hullWith walkWith nextWith bestWith lowestWith betterAt lowerAt sameAt crossAt d2At floatsOf numbersOf halfOf before sign isNan lt eq
     round ofBits add sub mul
 sheared-hull = refl
 
 sheared-quad : quadPoints vertices ≡ (0, 1) ∷ (15, 0) ∷ (30, 15) ∷ (15, 16) ∷ []
-unfolding vertices quadPoints quadOf iquad fars ends keep crossAt d2At laceAt areaAt floatsOf numbersOf halfOf lt le eq round ofBits add sub
+unfolding vertices quadPoints quadOf quadWith farthestWith ends keep crossAt d2At laceAt areaAt floatsOf numbersOf halfOf lt le eq round ofBits add sub
     mul
 sheared-quad = refl
 

@@ -1,4 +1,4 @@
--- Runs on a line of pixels, as document 01 has them under "Boundary points". The shortest run k is a number of the caller's; the base has
+-- Runs on a line of pixels, by rules 16 and 17. The shortest run k is a number of the caller's; the base has
 -- 4. Definitions only. Assumes nothing.
 use mathlib.Core.Path.{_≡_}
 use mathlib.Core.Logic.{_↔_}

@@ -8,34 +8,34 @@
 
 pub fn call(kind: u32, args: &[u32], out: &mut [u32]) -> usize {
     if kind < 200 {
-        return border_calls::answer(kind, args, out);
+        return calls_border::answer(kind, args, out);
     }
     if kind < 300 {
-        return ieee_calls::answer(kind, args, out);
+        return calls_ieee::answer(kind, args, out);
     }
     if kind < 400 {
-        return math_calls::answer(kind, args, out);
+        return calls_math::answer(kind, args, out);
     }
     if kind < 500 {
-        return transform_calls::answer(kind, args, out);
+        return calls_transform::answer(kind, args, out);
     }
     if kind < 600 {
-        return picture_calls::answer(kind, args, out);
+        return calls_picture::answer(kind, args, out);
     }
     if kind < 700 {
-        return outline_calls::answer(kind, args, out);
+        return calls_outline::answer(kind, args, out);
     }
     if kind < 800 {
-        return marks_calls::answer(kind, args, out);
+        return calls_marks::answer(kind, args, out);
     }
     if kind < 900 {
-        return fit_calls::answer(kind, args, out);
+        return calls_fit::answer(kind, args, out);
     }
     if kind < 910 {
-        return ring_calls::answer(kind, args, out);
+        return calls_ring::answer(kind, args, out);
     }
     if kind < 1000 {
-        return attempt_calls::answer(kind, args, out);
+        return calls_attempt::answer(kind, args, out);
     }
     0
 }

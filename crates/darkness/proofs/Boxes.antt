@@ -18,7 +18,7 @@ use Rattle.levels.proofs.Hist.{sum-le}
 use Rattle.levels.specs.Level.{cells, inkAt, inkOf, level}
 use Rattle.darkness.specs.Claims.{EmptyBox, FourReads, OfPicture, inkOfPicture}
 use Rattle.darkness.specs.Darkness.{inkBefore, inkBit, inkIn}
-use Rattle.darkness.specs.Steps.{rowInk}
+use Rattle.darkness.specs.Inner.{rowInk}
 
 -- ---- counts before a column and a row
 module _ (f : Plane) where

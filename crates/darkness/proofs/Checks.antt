@@ -13,8 +13,8 @@ use borrow.Author.Tests.{eq-eqb, ltb-false, ne-eqb}
 use Rattle.laws.proofs.Bools.{neither}
 use Rattle.laws.proofs.Counts.{count-none, count-step}
 use Rattle.laws.specs.Count.{count}
-use Rattle.darkness.specs.Darkness.{corner}
-use Rattle.darkness.specs.Door.{bad, badBox, countsAfter, tableAfter}
+use Rattle.darkness.specs.Darkness.{boxNumber}
+use Rattle.darkness.specs.Door.{isBadBox, badBox, countsAfter, tableAfter}
 
 -- ---- boxes
 pub good-box : (w h x0 y0 x1 y1 : ℕ) → badBox w h x0 y0 x1 y1 ≡ false → (x0 ≤ x1) × (y0 ≤ y1) × (x1 ≤ w) × (y1 ≤ h)
@@ -35,9 +35,9 @@ pub none-bad : (p : ℕ → Bool) (n : ℕ) → ((i : ℕ) → i < n → p i ≡
 none-bad p n all = let z = eq-eqb (count p n) 0 (count-none p n all) in cc
 
 -- box i by its numbers as they were read
-pub bad-is : (w h : ℕ) (boxes : List ℕ) (i : ℕ) {x0 y0 x1 y1 : ℕ} {r : Bool} → (x0 ≡ corner boxes i 0) × (y0 ≡ corner boxes i 1)
-    × (x1 ≡ corner boxes i 2) × (y1 ≡ corner boxes i 3) → r ≡ badBox w h x0 y0 x1 y1 → bad w h boxes i ≡ r
-unfolding bad
+pub bad-is : (w h : ℕ) (boxes : List ℕ) (i : ℕ) {x0 y0 x1 y1 : ℕ} {r : Bool} → (x0 ≡ boxNumber boxes i 0) × (y0 ≡ boxNumber boxes i 1)
+    × (x1 ≡ boxNumber boxes i 2) × (y1 ≡ boxNumber boxes i 3) → r ≡ badBox w h x0 y0 x1 y1 → isBadBox w h boxes i ≡ r
+unfolding isBadBox
 bad-is w h boxes i e is = rw (← e .0, ← e .1, ← e .2, ← e .3) (sym is)
 
 -- ---- a refusal leaves the lists as they were

@@ -24,7 +24,7 @@ use Rattle.laws.specs.Plane.{Plane, drawn, plane, rowwise}
 use Rattle.levels.specs.Level.{cells, inkOf}
 use Rattle.darkness.proofs.Boxes.{before-left, before-row, before-small, before-top, row-le, row-more, row-none}
 use Rattle.darkness.specs.Darkness.{inkBefore, inkBit}
-use Rattle.darkness.specs.Steps.{CountedTo, Held, RowTo, Sized, cellEnd, placeBelow, rowInk}
+use Rattle.darkness.specs.Inner.{CountedTo, TableHeld, RowTo, Sized, cellEnd, placeBelow, rowInk}
 
 -- ---- a bit of ink
 pub ink-small : (w : ℕ) (s levels : List ℕ) (x y : ℕ) → inkBit w s levels x y ≤ 1
@@ -41,13 +41,13 @@ ink-at w s levels c x y is low high at =
 
 -- ---- the first places hold counts
 module _ (f : Plane) (w : ℕ) where
-  pub held-at : (k : ℕ) (table : List ℕ) → Held f w k table → (x y : ℕ) → x ≤ w → y * (w + 1) + x < k
+  pub held-at : (k : ℕ) (table : List ℕ) → TableHeld f w k table → (x y : ℕ) → x ≤ w → y * (w + 1) + x < k
       → getD table (y * (w + 1) + x) 0 ≡ inkBefore f x y
   held-at k table held x y lx within =
       held (y * (w + 1) + x) within ∙ sym (rowwise-at (w + 1) (inkBefore f) (y * (w + 1) + x) x y refl (omega arith))
 
-  pub held-next : (k : ℕ) (table : List ℕ) (x y v : ℕ) → Held f w k table → k < length table → k ≡ y * (w + 1) + x → x ≤ w
-      → v ≡ inkBefore f x y → Held f w (k + 1) (set table k v)
+  pub held-next : (k : ℕ) (table : List ℕ) (x y v : ℕ) → TableHeld f w k table → k < length table → k ≡ y * (w + 1) + x → x ≤ w
+      → v ≡ inkBefore f x y → TableHeld f w (k + 1) (set table k v)
   held-next k table x y v held within at lx is =
       filled-step 0 (rowwise (w + 1) (inkBefore f)) table k v within held
       (is ∙ rowwise-at (w + 1) (inkBefore f) k x y at (omega arith))
@@ -61,7 +61,7 @@ module _ (f : Plane) (w : ℕ) where
       record { held = held-next k table x y v (a .held) within at lx is; past = past-set v (a .past) }
 
 -- ---- a row up to column x
-pub row-to-begin : (f : Plane) (w y : ℕ) (table : List ℕ) (x n : ℕ) → Held f w (placeBelow w x y) table → n ≡ rowInk f x y → x ≤ w
+pub row-to-begin : (f : Plane) (w y : ℕ) (table : List ℕ) (x n : ℕ) → TableHeld f w (placeBelow w x y) table → n ≡ rowInk f x y → x ≤ w
     → RowTo f w y table table x n
 row-to-begin f w y table x n held sum column = record
     { done = record { held = held; past = past-none (placeBelow w x y) table }; sum = sum; column = column }
@@ -117,7 +117,7 @@ sized-bounds {w = w} {h = h} {y = y} p l = bounds w h y (p .picture .w-high) (p 
 
 -- ---- a row, cell by cell: filled up to level cell c
 module _ (f : Plane) (w y : ℕ) where
-  pub row-begin : (table : List ℕ) → Held f w ((y + 1) * (w + 1)) table → (y + 1) * (w + 1) < length table
+  pub row-begin : (table : List ℕ) → TableHeld f w ((y + 1) * (w + 1)) table → (y + 1) * (w + 1) < length table
       → RowTo f w y (set table ((y + 1) * (w + 1)) 0) (set table ((y + 1) * (w + 1)) 0) (min (16 * 0) w) 0
   row-begin table held room =
       let z : min (16 * 0) w ≡ 0 = omega arith in

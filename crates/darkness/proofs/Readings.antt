@@ -14,9 +14,9 @@ use Rattle.laws.specs.Plane.{Plane, drawn, plane, rowwise}
 use Rattle.darkness.proofs.Boxes.{before-small, four-reads}
 use Rattle.darkness.proofs.Checks.{good-box}
 use Rattle.darkness.specs.Claims.{FourReads}
-use Rattle.darkness.specs.Darkness.{boxInk, corner, inkBefore, inkIn}
-use Rattle.darkness.specs.Door.{bad}
-use Rattle.darkness.specs.Steps.{Readable, fourReads, readsOf}
+use Rattle.darkness.specs.Darkness.{boxInk, boxNumber, inkBefore, inkIn}
+use Rattle.darkness.specs.Door.{isBadBox}
+use Rattle.darkness.specs.Inner.{Readable, fourReads, readsOf}
 
 module _ (f : Plane) (small : (x y : ℕ) → f x y ≤ 1) (w h : ℕ) (wide : w ≤ 4096) (high : h ≤ 4096) (old table : List ℕ)
     (is : table ≡ drawn (w + 1) (h + 1) (inkBefore f) old) (room : (w + 1) * (h + 1) ≤ length old) where
@@ -58,16 +58,16 @@ module _ (f : Plane) (small : (x y : ℕ) → f x y ≤ 1) (w h : ℕ) (wide : w
     pub reads-is : fourReads table w x0 y0 x1 y1 ≡ inkIn f x0 y0 x1 y1
     reads-is = omega (arith, top-left, bottom-right, bottom-left, top-right, sums)
 
-  module _ (boxes : List ℕ) (good : (i : ℕ) → i < length boxes / 4 → bad w h boxes i ≡ false) where
+  module _ (boxes : List ℕ) (good : (i : ℕ) → i < length boxes / 4 → isBadBox w h boxes i ≡ false) where
     pub all-readable : (i : ℕ) → i < length boxes / 4
-        → Readable table w (corner boxes i 0) (corner boxes i 1) (corner boxes i 2) (corner boxes i 3)
+        → Readable table w (boxNumber boxes i 0) (boxNumber boxes i 1) (boxNumber boxes i 2) (boxNumber boxes i 3)
     all-readable i l =
-        let g = good-box w h (corner boxes i 0) (corner boxes i 1) (corner boxes i 2) (corner boxes i 3) (unfold bad in good i l) in
-        readable (corner boxes i 0) (corner boxes i 1) (corner boxes i 2) (corner boxes i 3) (g .0) (g .1) (g .2) (g .3)
+        let g = good-box w h (boxNumber boxes i 0) (boxNumber boxes i 1) (boxNumber boxes i 2) (boxNumber boxes i 3) (unfold isBadBox in good i l) in
+        readable (boxNumber boxes i 0) (boxNumber boxes i 1) (boxNumber boxes i 2) (boxNumber boxes i 3) (g .0) (g .1) (g .2) (g .3)
 
     pub all-reads : (old : List ℕ)
         → written (length boxes / 4) (readsOf table w boxes) old ≡ written (length boxes / 4) (boxInk f boxes) old
     all-reads old =
-        written-ext (length boxes / 4) (readsOf table w boxes) (boxInk f boxes) old (λ i l. unfold readsOf boxInk bad in
-        (let g = good-box w h (corner boxes i 0) (corner boxes i 1) (corner boxes i 2) (corner boxes i 3) (good i l) in
-        reads-is (corner boxes i 0) (corner boxes i 1) (corner boxes i 2) (corner boxes i 3) (g .0) (g .1) (g .2) (g .3)))
+        written-ext (length boxes / 4) (readsOf table w boxes) (boxInk f boxes) old (λ i l. unfold readsOf boxInk isBadBox in
+        (let g = good-box w h (boxNumber boxes i 0) (boxNumber boxes i 1) (boxNumber boxes i 2) (boxNumber boxes i 3) (good i l) in
+        reads-is (boxNumber boxes i 0) (boxNumber boxes i 1) (boxNumber boxes i 2) (boxNumber boxes i 3) (g .0) (g .1) (g .2) (g .3)))

@@ -20,9 +20,9 @@ unfoldable pub inkBefore : Plane → Plane
 inkBefore f x y = box _+_ 0 f 0 0 x y
 
 -- Number k of box i in a list of boxes: x0, y0, x1, y1 by fours.
-abbrev pub corner : List ℕ → ℕ → ℕ → ℕ
-corner boxes i k = getD boxes (4 * i + k) 0
+abbrev pub boxNumber : List ℕ → ℕ → ℕ → ℕ
+boxNumber boxes i k = getD boxes (4 * i + k) 0
 
 -- How many ink pixels box i of a list has.
 unfoldable pub boxInk : Plane → List ℕ → ℕ → ℕ
-boxInk f boxes i = inkIn f (corner boxes i 0) (corner boxes i 1) (corner boxes i 2) (corner boxes i 3)
+boxInk f boxes i = inkIn f (boxNumber boxes i 0) (boxNumber boxes i 1) (boxNumber boxes i 2) (boxNumber boxes i 3)

@@ -9,17 +9,17 @@ use Rattle.laws.specs.Check.{orRefuse}
 use Rattle.laws.specs.Count.{count}
 use Rattle.laws.specs.Fold.{written}
 use Rattle.laws.specs.Plane.{drawn}
-use Rattle.checks.specs.Picture.{checkPicture}
+use Rattle.picture_checks.specs.Picture.{checkPicture}
 use Rattle.levels.specs.Level.{cells}
-use Rattle.darkness.specs.Darkness.{inkBit, inkBefore, corner, boxInk}
+use Rattle.darkness.specs.Darkness.{inkBit, inkBefore, boxNumber, boxInk}
 
 -- A box has x0 > x1 or y0 > y1, or passes the edge of a picture of w by h.
 abbrev pub badBox : ℕ → ℕ → ℕ → ℕ → ℕ → ℕ → Bool
 badBox w h x0 y0 x1 y1 = ltb x1 x0 || (ltb y1 y0 || (ltb w x1 || ltb h y1))
 
 -- Box i of a list does.
-unfoldable pub bad : ℕ → ℕ → List ℕ → ℕ → Bool
-bad w h boxes i = badBox w h (corner boxes i 0) (corner boxes i 1) (corner boxes i 2) (corner boxes i 3)
+unfoldable pub isBadBox : ℕ → ℕ → List ℕ → ℕ → Bool
+isBadBox w h boxes i = badBox w h (boxNumber boxes i 0) (boxNumber boxes i 1) (boxNumber boxes i 2) (boxNumber boxes i 3)
 
 -- By how many places the lent lists have. 3: a level grid shorter than its cells, a table below (width + 1) × (height + 1) numbers, or
 -- fewer places for counts than whole fours of box numbers. 18: the list of boxes is not whole fours of numbers, or has a box that is bad.
@@ -30,7 +30,7 @@ checkLists w h levels table counts boxes =
     (orRefuse (leb ((w + 1) * (h + 1)) table) 3
     (orRefuse (leb (length boxes / 4) counts) 3
     (orRefuse (eqb (length boxes % 4) 0) 18
-    (orRefuse (eqb (count (bad w h boxes) (length boxes / 4)) 0) 18
+    (orRefuse (eqb (count (isBadBox w h boxes) (length boxes / 4)) 0) 18
     0))))
 
 -- The checks of the picture, 1 and 2, then these.

@@ -3,8 +3,8 @@ ghost use mathlib.Core.Path.{_≡_};
 ghost use Prim.Native.Nat.{ℕ, _/_, _<_, _≤_};
 ghost use lib.ListN.{length};
 ghost use Rattle.laws.specs.Fold.{written};
-ghost use Rattle.darkness.specs.Darkness.{corner};
-ghost use Rattle.darkness.specs.Steps.{Readable, fourReads, readsOf};
+ghost use Rattle.darkness.specs.Darkness.{boxNumber};
+ghost use Rattle.darkness.specs.Inner.{Readable, fourReads, readsOf};
 use crate::refusals::Part;
 use crate::refusals::box_at;
 
@@ -24,8 +24,8 @@ pub fn count_all(boxes: &[u32], w: usize, table: &[u32], counts: &mut [u32])
     requires { ⌜ length (now boxes) / 4 ≤ length (now counts) ⌝ }
     requires { ⌜
         ((i : ℕ) → i < length (now boxes) / 4
-        → Readable (now table) w (corner (now boxes) i 0) (corner (now boxes) i 1)
-        (corner (now boxes) i 2) (corner (now boxes) i 3)) ⌝ }
+        → Readable (now table) w (boxNumber (now boxes) i 0) (boxNumber (now boxes) i 1)
+        (boxNumber (now boxes) i 2) (boxNumber (now boxes) i 3)) ⌝ }
     ensures { λ _. ⌜
         now (counts .exit)
         ≡ written (length (now (boxes .entry)) / 4)

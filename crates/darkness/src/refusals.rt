@@ -4,12 +4,12 @@ ghost use Prim.Native.Nat.{_+_, _*_, _/_, _<_, _≤_};
 ghost use lib.Dec.{eqb};
 ghost use lib.ListN.{length};
 ghost use Rattle.laws.specs.Count.{count};
-ghost use Rattle.checks.specs.Picture.{Sides};
-ghost use Rattle.darkness.specs.Darkness.{corner};
-ghost use Rattle.darkness.specs.Door.{badBox, bad, checkLists, checkDarkness};
-ghost use Rattle.darkness.specs.Steps.{Lists};
-use checks::check_picture;
+ghost use Rattle.picture_checks.specs.Picture.{Sides};
+ghost use Rattle.darkness.specs.Darkness.{boxNumber};
+ghost use Rattle.darkness.specs.Door.{badBox, isBadBox, checkLists, checkDarkness};
+ghost use Rattle.darkness.specs.Inner.{Lists};
 use levels::cells::cells_of;
+use picture_checks::check_picture;
 
 // A box of pixels: from (x0, y0), which is within, to (x1, y1), which is not.
 pub struct Part {
@@ -30,10 +30,10 @@ fn wide(n: u32) -> usize
 pub fn box_at(boxes: &[u32], i: usize) -> Part
     requires { ⌜ i < length (now boxes) / 4 ⌝ }
     ensures { λ r. ⌜
-        (r .x0 ≡ corner (now (boxes .entry)) i 0)
-        × (r .y0 ≡ corner (now (boxes .entry)) i 1)
-        × (r .x1 ≡ corner (now (boxes .entry)) i 2)
-        × (r .y1 ≡ corner (now (boxes .entry)) i 3) ⌝ }
+        (r .x0 ≡ boxNumber (now (boxes .entry)) i 0)
+        × (r .y0 ≡ boxNumber (now (boxes .entry)) i 1)
+        × (r .x1 ≡ boxNumber (now (boxes .entry)) i 2)
+        × (r .y1 ≡ boxNumber (now (boxes .entry)) i 3) ⌝ }
 {
     let k = 4 * i;
     Part {
@@ -63,7 +63,7 @@ fn is_bad(b: Part, w: usize, h: usize) -> bool
 // Whether no box of a list is bad.
 fn boxes_fit(boxes: &[u32], w: usize, h: usize) -> bool
     ensures { λ r. ⌜
-        r ≡ eqb (count (bad w h (now (boxes .entry))) (length (now (boxes .entry)) / 4)) 0 ⌝ }
+        r ≡ eqb (count (isBadBox w h (now (boxes .entry))) (length (now (boxes .entry)) / 4)) 0 ⌝ }
 {
     let n = boxes.len() / 4;
     let mut i = 0;
@@ -79,8 +79,8 @@ fn boxes_fit(boxes: &[u32], w: usize, h: usize) -> bool
 // The checks of the lent lists and of the boxes, where those of the picture passed.
 fn check_lists(w: usize, h: usize, levels: usize, table: usize, counts: usize, boxes: &[u32]) -> u32
     requires { ⌜ (w ≤ 4096) × (h ≤ 4096) ⌝ }
-    ensures { λ r. ⌜ r ≡ checkLists w h levels table counts (now (boxes .entry)) ⌝ }
-    ensures { λ r. ⌜ (r ≡ 0 → Lists w h levels table counts (now (boxes .entry))) ⌝ }
+    ensures answer { λ r. ⌜ r ≡ checkLists w h levels table counts (now (boxes .entry)) ⌝ }
+    ensures passed { λ r. ⌜ (r ≡ 0 → Lists w h levels table counts (now (boxes .entry))) ⌝ }
 {
     if levels < cells_of(w) * cells_of(h) {
         return 3;
@@ -110,9 +110,9 @@ pub fn check(
     counts: usize,
     boxes: &[u32],
 ) -> u32
-    ensures { λ r. ⌜
+    ensures answer { λ r. ⌜
         r ≡ checkDarkness w h bytes levels table counts (now (boxes .entry)) ⌝ }
-    ensures { λ r. ⌜
+    ensures passed { λ r. ⌜
         (r ≡ 0 → Sides w h bytes × Lists w h levels table counts (now (boxes .entry))) ⌝ }
 {
     let no = check_picture(w, h, bytes);

@@ -9,21 +9,14 @@ ghost use Rattle.laws.specs.Lent.{UntouchedPast};
 ghost use Rattle.laws.specs.Plane.{plane, drawn};
 ghost use Rattle.levels.specs.Level.{cells, span};
 ghost use Rattle.darkness.specs.Darkness.{inkBit, inkBefore};
-ghost use Rattle.darkness.specs.Steps.{
-  Sized,
-  Spot,
-  Held,
-  CountedTo,
-  cellEnd,
-  RowTo,
-};
+ghost use Rattle.darkness.specs.Inner.{Sized, CountSpot, TableHeld, CountedTo, cellEnd, RowTo};
+use labels::clearing::clear;
 use levels::cells::cells_of;
-use regions::tally::clear;
 
 // 1 for a byte below the threshold.
 fn one_below(v: u8, t: u8) -> u32
-    ensures { λ r. ⌜ r ≡ bit (ltb v t) ⌝ }
-    ensures { λ r. ⌜ r ≤ 1 ⌝ }
+    ensures answer { λ r. ⌜ r ≡ bit (ltb v t) ⌝ }
+    ensures most { λ r. ⌜ r ≤ 1 ⌝ }
 {
     if v < t { 1 } else { 0 }
 }
@@ -58,9 +51,9 @@ fn put_count(
     down: usize,
     sum: u32,
 ) -> u32
-    requires { ⌜ Spot (now s) (now table) pixel up down sum ⌝ }
-    ensures { λ r. ⌜ r ≡ sum + bit (ltb (getD (now (s .entry)) pixel 0) t) ⌝ }
-    ensures { λ r. ⌜
+    requires { ⌜ CountSpot (now s) (now table) pixel up down sum ⌝ }
+    ensures answer { λ r. ⌜ r ≡ sum + bit (ltb (getD (now (s .entry)) pixel 0) t) ⌝ }
+    ensures table { λ r. ⌜
         now (table .exit)
         ≡ set (now (table .entry)) down (getD (now (table .entry)) up 0 + r) ⌝ }
 {
@@ -132,7 +125,7 @@ fn fill_cell(
 fn fill_row(s: &[u8], levels: &[u8], w: usize, h: usize, table: &mut [u32], y: usize)
     requires { ⌜ Sized (now s) (now levels) (now table) w h ⌝ }
     requires { ⌜ y < h ⌝ }
-    requires { ⌜ Held (inkBit w (now s) (now levels)) w ((y + 1) * (w + 1)) (now table) ⌝ }
+    requires { ⌜ TableHeld (inkBit w (now s) (now levels)) w ((y + 1) * (w + 1)) (now table) ⌝ }
     ensures { λ _. ⌜
         CountedTo (inkBit w (now (s .entry)) (now (levels .entry))) w ((y + 2) * (w + 1))
         (now (table .entry)) (now (table .exit)) ⌝ }
@@ -151,8 +144,8 @@ fn fill_row(s: &[u8], levels: &[u8], w: usize, h: usize, table: &mut [u32], y: u
 // Puts 0 into the first n places of a list.
 fn clear_front(list: &mut [u32], n: usize)
     requires { ⌜ n ≤ length (now list) ⌝ }
-    ensures { λ _. ⌜ ((i : ℕ) → i < n → getD (now (list .exit)) i 0 ≡ 0) ⌝ }
-    ensures { λ _. ⌜ UntouchedPast n (now (list .entry)) (now (list .exit)) ⌝ }
+    ensures list { λ _. ⌜ ((i : ℕ) → i < n → getD (now (list .exit)) i 0 ≡ 0) ⌝ }
+    ensures list_past { λ _. ⌜ UntouchedPast n (now (list .entry)) (now (list .exit)) ⌝ }
 {
     clear(&mut list[..n]);
 }

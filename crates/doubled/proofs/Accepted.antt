@@ -3,23 +3,23 @@
 --     fewer                              no more vertices than points
 -- Assumes nothing.
 use mathlib.Core.Path.{_≡_, refl, sym, ap, _∙_}
-use mathlib.Core.Bool.{true, _&&_}
+use mathlib.Core.Bool.{true}
 use mathlib.Core.List.{List, [], _∷_, List·Memᴰ·head, List·Memᴰ·tail}
 use Prim.Native.Nat.{ℕ, zero, suc, _+_, _*_, _%_, _≤_}
 use native.Mathlib.Omega.{arith}
 use lib.Dec.{leb, eqb}
 use lib.ListN.{length, getD}
 use borrow.Author.Tests.{le-leb, eq-eqb}
+use Rattle.hull.proofs.Floats.{length-numbers}
 use Rattle.laws.proofs.Bools.{both}
 use Rattle.whole.specs.Hull.{hull}
 use Rattle.whole.proofs.IsHull.{hull-is}
 use Rattle.whole.proofs.Run.{pigeon}
-use Rattle.checks.specs.Points.{isPoints}
+use Rattle.picture_checks.specs.Points.{isPoints}
 use Rattle.hull.specs.Points.{ptsOf, numbersOf, UpTo}
 use Rattle.hull.proofs.Exact.{length-pts}
 use Rattle.doubled.specs.Outline.{hullWhole}
 use Rattle.doubled.specs.Checks.{coordinatesOn, checkHull, checkQuad}
-use Rattle.doubled.proofs.Points.{length-numbers}
 use Rattle.doubled.proofs.Exact.{hull-pts}
 
 -- every number of the points is a coordinate

@@ -4,10 +4,9 @@
 --     Passed, hull-passed, quad-passed             what an accepted call knows
 -- Assumes nothing.
 use mathlib.Core.Path.{_≡_, refl, sym, ap, ap₂, _∙_, subst}
-use mathlib.Core.Logic.{_⊎_, inl, inr}
 use mathlib.Core.Bool.{Bool, true, false, _&&_}
 use mathlib.Core.List.{List}
-use Prim.Native.Nat.{ℕ, zero, suc, _+_, _-_, _*_, _%_, _/_, _≤_, _<_}
+use Prim.Native.Nat.{ℕ, zero, suc, _+_, _-_, _*_, _≤_, _<_}
 use native.Mathlib.Nat.{sub-zero}
 use native.Mathlib.Decide.{decLt}
 use native.Mathlib.Omega.{arith}
@@ -19,8 +18,8 @@ use Rattle.laws.proofs.Bools.{and-left, and-right}
 use Rattle.laws.proofs.Steps.{one-less, none-left}
 use Rattle.hull.specs.Points.{many}
 use Rattle.doubled.specs.Points.{Bounded}
-use Rattle.checks.specs.Points.{isPoints}
-use Rattle.checks.proofs.Checked.{points-in}
+use Rattle.picture_checks.specs.Points.{isPoints}
+use Rattle.picture_checks.proofs.Checked.{points-in}
 use Rattle.doubled.specs.Checks.{coordinatesOn, coordinatesOf, checkHull, checkQuad}
 
 -- ---- the coordinates

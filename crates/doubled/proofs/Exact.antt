@@ -3,18 +3,18 @@
 --     pts-inj                            points of the plane by their coordinates
 --     whole-outlines, same-as-floats     the claims
 -- Assumes nothing.
-use mathlib.Core.Path.{_≡_, refl, sym, ap, ap₂, _∙_, subst}
+use mathlib.Core.Path.{_≡_, refl, sym, ap, _∙_, subst}
 use mathlib.Core.List.{List, [], _∷_, map}
 use Prim.Native.Nat.{ℕ}
-use lib.ListN.{length, getD}
-use lib.IntN.{ℤ, pos, natAbs}
+use lib.ListN.{length}
+use lib.IntN.{natAbs}
 use Rattle.whole.specs.Points.{Pt, ptAt, Clockwise}
 use Rattle.whole.specs.Hull.{hull}
 use Rattle.whole.specs.Quad.{quad}
-use Rattle.whole.specs.Wrap.{wrap, whole, iquad, wholeOps}
-use Rattle.whole.proofs.Wraps.{wrap-is}
+use Rattle.whole.specs.Walk.{hullWith, wholeTests, quadWith, wholeOps}
+use Rattle.whole.proofs.Wraps.{hullWith-is}
 use Rattle.whole.proofs.Indexed.{quad-is}
-use Rattle.hull.specs.Points.{ptOf, ptsOf, Small}
+use Rattle.hull.specs.Points.{ptOf, ptsOf}
 use Rattle.hull.specs.Hull.{hullPoints}
 use Rattle.hull.specs.Quad.{quadPoints}
 use Rattle.hull.proofs.Exact.{map-pt, length-pts, hull-exact}
@@ -29,15 +29,15 @@ use Rattle.whole.proofs.Clockwise.{quad-clockwise}
 pub hull-pts : (L : List (ℕ × ℕ)) → ptsOf (hullWhole L) ≡ hull (ptsOf L)
 unfolding hullWhole
 hull-pts L =
-    map-pt L (wrap (whole (ptsOf L)) (length L))
-    ∙ ap (λ (n : ℕ). map (ptAt (ptsOf L)) (wrap (whole (ptsOf L)) n)) (sym (length-pts L))
-    ∙ wrap-is (ptsOf L)
+    map-pt L (hullWith (wholeTests (ptsOf L)) (length L))
+    ∙ ap (λ (n : ℕ). map (ptAt (ptsOf L)) (hullWith (wholeTests (ptsOf L)) n)) (sym (length-pts L))
+    ∙ hullWith-is (ptsOf L)
 
 pub quad-pts : (L : List (ℕ × ℕ)) → ptsOf (quadWhole L) ≡ quad (ptsOf L)
 unfolding quadWhole
 quad-pts L =
-    map-pt L (iquad (wholeOps (ptsOf L)) (length L))
-    ∙ ap (λ (n : ℕ). map (ptAt (ptsOf L)) (iquad (wholeOps (ptsOf L)) n)) (sym (length-pts L))
+    map-pt L (quadWith (wholeOps (ptsOf L)) (length L))
+    ∙ ap (λ (n : ℕ). map (ptAt (ptsOf L)) (quadWith (wholeOps (ptsOf L)) n)) (sym (length-pts L))
     ∙ quad-is (ptsOf L)
 
 -- the coordinates again

@@ -3,8 +3,8 @@
 --     numbers-append, length-numbers, pairs-numbers   the numbers of a list of points
 -- Assumes nothing.
 use mathlib.Core.Path.{_≡_, refl, ap, ap₂, _∙_}
-use mathlib.Core.List.{List, [], _∷_, _++_}
-use Prim.Native.Nat.{ℕ, zero, suc, _+_, _*_, _/_, _<_}
+use mathlib.Core.List.{List, [], _∷_}
+use Prim.Native.Nat.{ℕ, zero, suc, _+_, _*_, _<_}
 use native.Mathlib.Omega.{arith}
 use lib.ListN.{length, getD}
 use Rattle.hull.specs.Points.{many, numbersOf}
@@ -47,16 +47,6 @@ pair-any (x ∷ y ∷ p) e (suc i) =
     odd i = omega arith
 
 -- ---- the numbers of points
-pub numbers-append : (l m : List (ℕ × ℕ)) → numbersOf (l ++ m) ≡ numbersOf l ++ numbersOf m
-unfolding numbersOf
-numbers-append [] m = refl
-numbers-append (q ∷ l) m = ap (λ (k : List ℕ). q .0 ∷ q .1 ∷ k) (numbers-append l m)
-
-pub length-numbers : (l : List (ℕ × ℕ)) → length (numbersOf l) ≡ 2 * length l
-unfolding numbersOf
-length-numbers [] = refl
-length-numbers (q ∷ l) = let e = length-numbers l in omega arith
-
 pub pairs-numbers : (L : List (ℕ × ℕ)) → pairsOf (numbersOf L) ≡ L
 unfolding pairsOf numbersOf
 pairs-numbers [] = refl

@@ -7,17 +7,16 @@
 -- Assumes nothing.
 use mathlib.Core.Path.{_≡_, refl, sym, ap, ap₂, _∙_, subst}
 use mathlib.Core.Bool.{Bool, true, false, _&&_, cond}
-use mathlib.Core.List.{List, [], _∷_, _++_, map, List·Memᴰ·head, List·Memᴰ·tail}
+use mathlib.Core.List.{List, [], _∷_, _++_, List·Memᴰ·head, List·Memᴰ·tail}
 use Prim.Native.Nat.{ℕ, zero, suc, _+_, _-_, _≤_, _<_}
 use native.Mathlib.Nat.{sub-zero}
 use native.Mathlib.Omega.{arith}
-use lib.Dec.{leb, lit≤}
+use lib.Dec.{leb}
 use lib.ListN.{length, getD, drop, length-map, List·getD-map}
 use lib.Seq.{ext-getD}
 use lib.IntN.{pos}
-use lib.Ieee.{Float, nan, binary32, ofInt, ofBits, mul, eq, toUnsigned}
+use lib.Ieee.{Float, nan, binary32, ofInt, eq, toUnsigned}
 use borrow.Author.Tests.{le-leb, lt-leb, eq-eqb}
-use Rattle.ieee.specs.Val.{Val}
 use Rattle.ieee.proofs.Vals.{eq-val, int-val}
 use Rattle.ieee.proofs.Wholes.{doubled-val, doubled-cast}
 use Rattle.laws.specs.Fold.{tab, written}
@@ -28,7 +27,6 @@ use Rattle.hull.proofs.Exact.{half-val}
 use Rattle.laws.specs.Lent.{laid}
 use Rattle.doubled.specs.Checks.{coordinatesOn, coordinatesOf}
 use Rattle.doubled.specs.Doubled.{doubledOf, twiceOf, twices, doubledAfter}
-use Rattle.hull.specs.Points.{UpTo}
 use Rattle.doubled.specs.Claims.{DoubledIs}
 use Rattle.doubled.proofs.Checks.{good-step, good-stop}
 

@@ -6,7 +6,7 @@ use Prim.Native.Nat.{ℕ, zero, suc, _+_}
 use lib.Dec.{leb}
 use lib.ListN.{length, getD}
 use Rattle.laws.specs.Check.{orRefuse}
-use Rattle.checks.specs.Points.{isPoints}
+use Rattle.picture_checks.specs.Points.{isPoints}
 
 -- d numbers of a list from place k on are 0 to 8,192.
 unfoldable pub coordinatesOn : List ℕ → ℕ → ℕ → Bool

@@ -13,7 +13,7 @@ use Rattle.doubled.specs.Doubled.{twices}
 
 pub record WholeOutlines : Type 0 where
   -- "All points lie on or inside the hull, its vertices are points, and no vertex lies on or inside the hull of the others. Their order is
-  -- 01's."
+  -- that of rule 18."
   pub hulls : (L : List (ℕ × ℕ)) → IsHull (ptsOf L) (ptsOf (hullWhole L))
   -- These words decide the answer: no other list of vertices has them.
   pub only : (L vs : List (ℕ × ℕ)) → IsHull (ptsOf L) (ptsOf vs) → vs ≡ hullWhole L

@@ -3,7 +3,7 @@
 ghost use Rattle.doubled.specs.Claims.{WholeOutlines, SameAsFloats, DoubledIs};
 
 // For every list of points: all of them lie on or inside the hull, its vertices are points, no
-// vertex lies on or inside the hull of the others, their order is 01's, and no other list has all
+// vertex lies on or inside the hull of the others, their order is that of rule 18, and no other list has all
 // this; a quad runs clockwise.
 pub fn whole_outlines()
     ensures { λ _. ⌜ WholeOutlines ⌝ }

@@ -11,7 +11,7 @@ ghost use lib.ListN.{length};
 ghost use Rattle.laws.specs.Lent.{laid};
 ghost use Rattle.doubled.specs.Checks.{coordinatesOf};
 ghost use Rattle.doubled.specs.Doubled.{twiceOf, twices, checkDoubled, doubledAfter};
-use checks::is_points;
+use picture_checks::is_points;
 
 pub mod claims;
 pub mod coordinates;
@@ -78,8 +78,8 @@ fn fill(p: &[f32], out: &mut [u32])
 // Stores twice each number of the points p in out, as whole numbers from 0 to 8,192, and returns 0;
 // or returns the number of the refusal, and changes nothing.
 pub fn doubled(p: &[f32], out: &mut [u32]) -> u32
-    ensures { λ r. ⌜ r ≡ checkDoubled (now (p .entry)) (length (now (out .entry))) ⌝ }
-    ensures { λ r. ⌜ now (out .exit) ≡ doubledAfter r (now (p .entry)) (now (out .entry)) ⌝ }
+    ensures answer { λ r. ⌜ r ≡ checkDoubled (now (p .entry)) (length (now (out .entry))) ⌝ }
+    ensures out { λ r. ⌜ now (out .exit) ≡ doubledAfter r (now (p .entry)) (now (out .entry)) ⌝ }
 {
     let no = check(p, out.len());
     if no == 0 {

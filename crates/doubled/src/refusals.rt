@@ -3,7 +3,7 @@ ghost use mathlib.Core.Path.{_≡_};
 ghost use Prim.Native.Nat.{_<_, _≤_};
 ghost use lib.ListN.{length};
 ghost use Rattle.doubled.specs.Checks.{coordinatesOf, checkHull, checkQuad};
-use checks::is_points;
+use picture_checks::is_points;
 
 // 1 for a number past 8,192, else 0.
 fn beyond(n: u32) -> u32

@@ -10,7 +10,7 @@ use mathlib.Core.Path.{_≡_, refl, sym, ap, _∙_}
 use mathlib.Core.Bool.{Bool, true, false, not, _&&_, cond}
 use mathlib.Core.List.{List}
 use Prim.Native.Nat.{ℕ, zero, suc, _+_, _-_, _*_, _≤_, _<_}
-use native.Mathlib.Nat.{mul-comm, mul-le-mul}
+use native.Mathlib.Nat.{mul-le-mul}
 use native.Mathlib.Numerals.{add-one}
 use native.Mathlib.Omega.{arith}
 use lib.Dec.{leb, ltb}
@@ -18,8 +18,8 @@ use lib.ListN.{length, set, length-set}
 use borrow.Author.Tests.{ltb-true, leb-true, lt-ltb, le-leb, lt-leb, not-true, not-false}
 use Rattle.laws.proofs.Bools.{both, and-left, and-right}
 use Rattle.laws.proofs.Planes.{place-lt}
-use Rattle.checks.specs.Picture.{Sides}
-use Rattle.drawing.specs.Lines.{stepsOf, between, onSide, dotOn, dotsOn}
+use Rattle.picture_checks.specs.Picture.{Sides}
+use Rattle.drawing.specs.Lines.{stepsOf, linePoint, onSide, dotOn, dotsOn}
 use Rattle.drawing.specs.declared.Spot.{Spot}
 
 -- A spot in the picture.
@@ -99,7 +99,7 @@ module _ (w h : ℕ) (a b : Spot) (colour : ℕ) (s : List ℕ) where
   dots-none = refl
 
   pub dots-more : (k : ℕ)
-      → dotOn w h (between (a .x) (b .x) (stepsOf a b) k) (between (a .y) (b .y) (stepsOf a b) k) colour (dotsOn w h a b colour k s)
+      → dotOn w h (linePoint (a .x) (b .x) (stepsOf a b) k) (linePoint (a .y) (b .y) (stepsOf a b) k) colour (dotsOn w h a b colour k s)
       ≡ dotsOn w h a b colour (k + 1) s
   unfolding dotsOn
   dots-more k = ap (λ (m : ℕ). dotsOn w h a b colour m s) (sym (add-one k))
@@ -125,14 +125,14 @@ module _ {w h : ℕ} {a b : Spot} {colour : ℕ} {s₀ s : List ℕ} {k : ℕ} (
   pub dotting-length : length s ≡ length s₀
   dotting-length = ap length (d .list) ∙ dots-length w h a b colour s₀ k
 
-  pub dotting-turn : (n x y : ℕ) (t : List ℕ) → n ≡ stepsOf a b → k ≤ n → x ≡ between (a .x) (b .x) n k → y ≡ between (a .y) (b .y) n k
+  pub dotting-turn : (n x y : ℕ) (t : List ℕ) → n ≡ stepsOf a b → k ≤ n → x ≡ linePoint (a .x) (b .x) n k → y ≡ linePoint (a .y) (b .y) n k
       → t ≡ dotOn w h x y colour s → Dotting w h a b colour s₀ t (k + 1)
   dotting-turn n x y t e more p q r = record {
     list =
         r ∙ ap (dotOn w h x y colour) (d .list)
-        ∙ ap (λ (i : ℕ). dotOn w h i y colour (dotsOn w h a b colour k s₀)) (p ∙ ap (λ (m : ℕ). between (a .x) (b .x) m k) e)
-        ∙ ap (λ (i : ℕ). dotOn w h (between (a .x) (b .x) (stepsOf a b) k) i colour (dotsOn w h a b colour k s₀))
-        (q ∙ ap (λ (m : ℕ). between (a .y) (b .y) m k) e)
+        ∙ ap (λ (i : ℕ). dotOn w h i y colour (dotsOn w h a b colour k s₀)) (p ∙ ap (λ (m : ℕ). linePoint (a .x) (b .x) m k) e)
+        ∙ ap (λ (i : ℕ). dotOn w h (linePoint (a .x) (b .x) (stepsOf a b) k) i colour (dotsOn w h a b colour k s₀))
+        (q ∙ ap (λ (m : ℕ). linePoint (a .y) (b .y) m k) e)
         ∙ dots-more w h a b colour s₀ k;
     early = omega arith;
   }

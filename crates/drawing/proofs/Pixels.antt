@@ -4,41 +4,30 @@
 --     dots-on, dots-off                         after some points: of a pixel that is one of them, and of one that is none
 --     lines-drawn, no-gaps                      the claims
 -- Assumes nothing.
-use mathlib.Core.Path.{_≡_, refl, sym, ap, _∙_, subst}
-use mathlib.Core.Logic.{_⊎_, inl, inr, ⊎-elim}
+use mathlib.Core.Path.{_≡_, refl, sym, ap, _∙_}
+use mathlib.Core.Logic.{_⊎_, inl, inr}
 use mathlib.Core.Bool.{Bool, true, false, _&&_, cond}
 use mathlib.Core.List.{List}
-use Prim.Native.Nat.{ℕ, zero, suc, _+_, _-_, _*_, _/_, _%_, _≤_, _<_, min, max}
+use Prim.Native.Nat.{ℕ, zero, suc, _+_, _-_, _*_, _/_, _%_, _≤_, _<_}
 use native.Mathlib.Decide.{ℕ-discrete}
-use native.Mathlib.Numerals.{add-one}
 use native.Mathlib.Omega.{arith}
-use lib.Dec.{eqb, leb}
+use lib.Dec.{eqb}
 use lib.ListN.{length, getD, set}
 use lib.Seq.{getD-set-same, getD-set-other}
-use borrow.Author.Tests.{le-leb, eq-eqb, ne-eqb}
+use borrow.Author.Tests.{eq-eqb, ne-eqb}
+use Rattle.picture_checks.proofs.Sides.{side-is}
 use Rattle.laws.specs.Check.{orRefuse}
 use Rattle.laws.specs.Plane.{plane}
-use Rattle.laws.proofs.Bools.{both, which, at-or-below}
+use Rattle.laws.proofs.Bools.{which, at-or-below}
 use Rattle.laws.proofs.Planes.{place-lt, place-col, place-row}
-use Rattle.checks.specs.Picture.{isSide, checkPicture, Sides}
-use Rattle.drawing.specs.Lines.{apart, stepsOf, between, onSide, dotOn, dotsOn, lineOn}
+use Rattle.picture_checks.specs.Picture.{isSide, checkPicture, Sides}
+use Rattle.drawing.specs.Lines.{stepsOf, linePoint, onSide, dotOn, dotsOn, lineOn}
 use Rattle.drawing.specs.Claims.{IsPoint, IsPixel, Beyond, Drawn, LinesDrawn, NoGaps}
 use Rattle.drawing.specs.declared.Spot.{Spot}
-use Rattle.drawing.proofs.Points.{
-  between-first,
-  between-last,
-  between-low,
-  between-high,
-  between-next,
-  steps-some,
-  steps-apart,
-}
-use Rattle.drawing.proofs.Dotted.{In, in-picture, in-set, dot-in, dot-out, dot-length, dots-length}
+use Rattle.drawing.proofs.Points.{between-first, between-last, between-low, between-high, between-next, steps-some, steps-apart}
+use Rattle.drawing.proofs.Dotted.{In, in-picture, in-set, dot-in, dot-out, dots-length}
 
 -- ---- a line in a picture
-side-is : (n : ℕ) → 1 ≤ n → n ≤ 4096 → isSide n ≡ true
-side-is n low high = both (leb 1 n) (leb n 4096) (le-leb 1 n low) (le-leb n 4096 high)
-
 pub sides-pass : {w h bytes : ℕ} → Sides w h bytes → checkPicture w h bytes 0 ≡ 0
 sides-pass {w} {h} {bytes} p =
     ap (λ (t : Bool). orRefuse t 1 (orRefuse (isSide h) 1 (orRefuse (eqb bytes (w * h)) 2 0))) (side-is w (p .w-low) (p .w-high))
@@ -105,10 +94,10 @@ module _ (w h x y colour : ℕ) (s : List ℕ) (c r : ℕ) (across : c < w) (dow
 -- ---- a pixel after some points
 module _ (w h : ℕ) (a b : Spot) (colour : ℕ) (s : List ℕ) (c r : ℕ) (across : c < w) (down : r < h) where
   abbrev x-at : ℕ → ℕ
-  x-at k = between (a .x) (b .x) (stepsOf a b) k
+  x-at k = linePoint (a .x) (b .x) (stepsOf a b) k
 
   abbrev y-at : ℕ → ℕ
-  y-at k = between (a .y) (b .y) (stepsOf a b) k
+  y-at k = linePoint (a .y) (b .y) (stepsOf a b) k
 
   pub dots-on : Sides w h (length s) → (m k : ℕ) → k < m → x-at k ≡ 32768 + c → y-at k ≡ 32768 + r
       → plane w (dotsOn w h a b colour m s) c r ≡ colour
@@ -167,7 +156,7 @@ module _ (w h : ℕ) (a b : Spot) (colour : ℕ) (s : List ℕ) (p : Sides w h (
         row = between-last (a .y) (b .y) (stepsOf a b) (steps-some a b) ∙ i .row;
       })
 
-  within : (u t n k z : ℕ) → 1 ≤ n → k ≤ n → between u t n k ≡ z → Beyond u t z → ⊥
+  within : (u t n k z : ℕ) → 1 ≤ n → k ≤ n → linePoint u t n k ≡ z → Beyond u t z → ⊥
   within u t n k z some early e (inl l) = omega (arith, between-low u t n some k early)
   within u t n k z some early e (inr l) = omega (arith, between-high u t n some k early)
 

@@ -4,27 +4,14 @@
 --     between-first, between-last, between-low, between-high, between-few, between-next   the number after k steps
 --     steps-some, steps-few, steps-apart        the steps of a line
 -- Assumes nothing.
-use mathlib.Core.Path.{_≡_, refl, sym, ap, _∙_}
+use mathlib.Core.Path.{_≡_, ap, _∙_}
 use mathlib.Core.Logic.{_⊎_, inl, inr}
-use Prim.Native.Nat.{ℕ, zero, suc, _+_, _-_, _*_, _/_, _≤_, _<_, min, max}
-use native.Mathlib.Nat.{
-  mul-le-mul,
-  mul-le-mul-right,
-  mul-zero,
-  sub-zero,
-  add-zero,
-  le-div-iff-mul-le,
-  div-lt-iff-lt-mul,
-  div-add-mod',
-  mod-lt,
-  min-le-left,
-  min-le-right,
-  le-max-left,
-  le-max-right,
-}
+use Prim.Native.Nat.{ℕ, _+_, _-_, _*_, _/_, _≤_, _<_, min, max}
+use native.Mathlib.Nat.{mul-le-mul-right, mul-zero, sub-zero, le-div-iff-mul-le, div-lt-iff-lt-mul, div-add-mod', mod-lt, min-le-left, min-le-right, le-max-left, le-max-right}
 use native.Mathlib.Omega.{arith}
 use Rattle.laws.proofs.Bools.{le-or-lt}
-use Rattle.drawing.specs.Lines.{apart, stepsOf, between}
+use Rattle.laws.specs.Gap.{gap}
+use Rattle.drawing.specs.Lines.{stepsOf, linePoint}
 use Rattle.drawing.specs.declared.Spot.{Spot}
 
 -- ---- a quotient, rounded
@@ -55,10 +42,10 @@ near-up p q m some up few =
     let z : q / m < p / m + 1 + 1 = div-lt-iff-lt-mul some .1 past in
     (le-div-iff-mul-le some .1 lowest, omega arith)
 
-pub mean-near : (n u v : ℕ) → 1 ≤ n → u ≤ v + n → v ≤ u + n → apart ((2 * u + n) / (2 * n)) ((2 * v + n) / (2 * n)) ≤ 1
+pub mean-near : (n u v : ℕ) → 1 ≤ n → u ≤ v + n → v ≤ u + n → gap ((2 * u + n) / (2 * n)) ((2 * v + n) / (2 * n)) ≤ 1
 mean-near n u v some few few′ = go (le-or-lt u v)
   where
-    go : (u ≤ v) ⊎ (v < u) → apart ((2 * u + n) / (2 * n)) ((2 * v + n) / (2 * n)) ≤ 1
+    go : (u ≤ v) ⊎ (v < u) → gap ((2 * u + n) / (2 * n)) ((2 * v + n) / (2 * n)) ≤ 1
     go (inl up) = let z = near-up (2 * u + n) (2 * v + n) (2 * n) (omega arith) (omega arith) (omega arith) in omega (arith, z)
     go (inr down) = let z = near-up (2 * v + n) (2 * u + n) (2 * n) (omega arith) (omega arith) (omega arith) in omega (arith, z)
 
@@ -79,27 +66,27 @@ weight-fits a b n k p q few early = omega (arith, weight-high a b n k early 6553
 
 -- ---- the number after k steps
 module _ (a b n : ℕ) (some : 1 ≤ n) where
-  pub between-first : between a b n 0 ≡ a
-  unfolding between
+  pub between-first : linePoint a b n 0 ≡ a
+  unfolding linePoint
   between-first = mean-is n _ a some (ap (λ (m : ℕ). a * m + b * 0) (sub-zero n) ∙ omega (arith, mul-zero b))
 
-  pub between-last : between a b n n ≡ b
-  unfolding between
+  pub between-last : linePoint a b n n ≡ b
+  unfolding linePoint
   between-last = let z : n - n ≡ 0 = omega arith in mean-is n _ b some (ap (λ (m : ℕ). a * m + b * n) z ∙ omega (arith, mul-zero a))
 
-  pub between-low : (k : ℕ) → k ≤ n → min a b ≤ between a b n k
-  unfolding between
+  pub between-low : (k : ℕ) → k ≤ n → min a b ≤ linePoint a b n k
+  unfolding linePoint
   between-low k early = mean-low n _ (min a b) some (weight-low a b n k early (min a b) (min-le-left a b) (min-le-right a b))
 
-  pub between-high : (k : ℕ) → k ≤ n → between a b n k ≤ max a b
-  unfolding between
+  pub between-high : (k : ℕ) → k ≤ n → linePoint a b n k ≤ max a b
+  unfolding linePoint
   between-high k early = mean-high n _ (max a b) some (weight-high a b n k early (max a b) (le-max-left a b) (le-max-right a b))
 
-  pub between-few : (k : ℕ) → k ≤ n → a ≤ 65535 → b ≤ 65535 → between a b n k ≤ 65535
+  pub between-few : (k : ℕ) → k ≤ n → a ≤ 65535 → b ≤ 65535 → linePoint a b n k ≤ 65535
   between-few k early p q = omega (arith, between-high k early)
 
-  pub between-next : (k : ℕ) → k < n → apart a b ≤ n → apart (between a b n k) (between a b n (k + 1)) ≤ 1
-  unfolding between
+  pub between-next : (k : ℕ) → k < n → gap a b ≤ n → gap (linePoint a b n k) (linePoint a b n (k + 1)) ≤ 1
+  unfolding linePoint
   between-next k early near =
       let j = n - (k + 1) in
       let z : n - k ≡ j + 1 = omega arith in
@@ -112,16 +99,16 @@ module _ (a b : Spot) where
   unfolding stepsOf
   steps-some = omega arith
 
-  pub steps-apart : (apart (a .x) (b .x) ≤ stepsOf a b) × (apart (a .y) (b .y) ≤ stepsOf a b)
+  pub steps-apart : (gap (a .x) (b .x) ≤ stepsOf a b) × (gap (a .y) (b .y) ≤ stepsOf a b)
   unfolding stepsOf
   steps-apart = (omega arith, omega arith)
 
   -- as the code takes them
-  pub steps-are : (across down r : ℕ) → across ≡ apart (a .x) (b .x) → down ≡ apart (a .y) (b .y) → r ≡ max 1 (max across down)
+  pub steps-are : (across down r : ℕ) → across ≡ gap (a .x) (b .x) → down ≡ gap (a .y) (b .y) → r ≡ max 1 (max across down)
       → r ≡ stepsOf a b
   unfolding stepsOf
   steps-are across down r e f g =
-      g ∙ ap (λ (m : ℕ). max 1 (max m down)) e ∙ ap (λ (m : ℕ). max 1 (max (apart (a .x) (b .x)) m)) f
+      g ∙ ap (λ (m : ℕ). max 1 (max m down)) e ∙ ap (λ (m : ℕ). max 1 (max (gap (a .x) (b .x)) m)) f
 
 pub larger-few : (across down r : ℕ) → across ≤ 65535 → down ≤ 65535 → r ≡ max 1 (max across down) → (1 ≤ r) × (r ≤ 65535)
 larger-few across down r p q e = (omega arith, omega arith)

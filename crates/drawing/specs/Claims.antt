@@ -5,15 +5,16 @@ use mathlib.Core.List.{List}
 use Prim.Native.Nat.{ℕ, _+_, _≤_, _<_, min, max}
 use lib.ListN.{length}
 use Rattle.laws.specs.Plane.{plane}
-use Rattle.checks.specs.Picture.{Sides}
-use Rattle.drawing.specs.Lines.{apart, stepsOf, between, lineOn}
+use Rattle.picture_checks.specs.Picture.{Sides}
+use Rattle.laws.specs.Gap.{gap}
+use Rattle.drawing.specs.Lines.{stepsOf, linePoint, lineOn}
 use Rattle.drawing.specs.declared.Spot.{Spot}
 
 -- The pixel in column c and row r is point k of the line from a to b.
 pub record IsPoint (a b : Spot) (k c r : ℕ) : Type 0 where
   pub early : k ≤ stepsOf a b
-  pub column : between (a .x) (b .x) (stepsOf a b) k ≡ 32768 + c
-  pub row : between (a .y) (b .y) (stepsOf a b) k ≡ 32768 + r
+  pub column : linePoint (a .x) (b .x) (stepsOf a b) k ≡ 32768 + c
+  pub row : linePoint (a .y) (b .y) (stepsOf a b) k ≡ 32768 + r
 
 -- A spot is the pixel in column c and row r.
 pub record IsPixel (a : Spot) (c r : ℕ) : Type 0 where
@@ -42,5 +43,5 @@ LinesDrawn = (w h : ℕ) (a b : Spot) (colour : ℕ) (s : List ℕ) → Sides w 
 -- A line has no gaps: from a point to the next, column and row change by at most one.
 unfoldable pub NoGaps : Type 0
 NoGaps = (a b : Spot) (k : ℕ) → k < stepsOf a b
-    → (apart (between (a .x) (b .x) (stepsOf a b) k) (between (a .x) (b .x) (stepsOf a b) (k + 1)) ≤ 1)
-    × (apart (between (a .y) (b .y) (stepsOf a b) k) (between (a .y) (b .y) (stepsOf a b) (k + 1)) ≤ 1)
+    → (gap (linePoint (a .x) (b .x) (stepsOf a b) k) (linePoint (a .x) (b .x) (stepsOf a b) (k + 1)) ≤ 1)
+    × (gap (linePoint (a .y) (b .y) (stepsOf a b) k) (linePoint (a .y) (b .y) (stepsOf a b) (k + 1)) ≤ 1)

@@ -6,20 +6,18 @@ use mathlib.Core.List.{List}
 use Prim.Native.Nat.{ℕ, zero, suc, _+_, _-_, _*_, _/_, max}
 use lib.Dec.{eqb, leb, ltb}
 use lib.ListN.{length, set}
-use Rattle.checks.specs.Picture.{checkPicture}
+use Rattle.laws.specs.Gap.{gap}
+use Rattle.picture_checks.specs.Picture.{checkPicture}
 use Rattle.drawing.specs.declared.Spot.{Spot}
 
--- How far two numbers are apart.
-abbrev pub apart : ℕ → ℕ → ℕ
-apart a b = (a - b) + (b - a)
-
--- The steps of a line: as many as its ends are apart in columns or in rows, whichever is more, and at least one.
+-- How far two numbers are gap.
+-- The steps of a line: as many as its ends are gap in columns or in rows, whichever is more, and at least one.
 unfoldable pub stepsOf : Spot → Spot → ℕ
-stepsOf a b = max 1 (max (apart (a .x) (b .x)) (apart (a .y) (b .y)))
+stepsOf a b = max 1 (max (gap (a .x) (b .x)) (gap (a .y) (b .y)))
 
 -- The number after k of n even steps from a to b, (a * (n - k) + b * k) / n, rounded to the nearest whole number, halves up.
-unfoldable pub between : ℕ → ℕ → ℕ → ℕ → ℕ
-between a b n k = (2 * (a * (n - k) + b * k) + n) / (2 * n)
+unfoldable pub linePoint : ℕ → ℕ → ℕ → ℕ → ℕ
+linePoint a b n k = (2 * (a * (n - k) + b * k) + n) / (2 * n)
 
 -- Whether a spot's number is that of one of n columns or rows.
 abbrev pub onSide : ℕ → ℕ → Bool
@@ -33,7 +31,7 @@ dotOn w h x y colour s = cond (onSide w x && onSide h y) (set s ((y - 32768) * w
 unfoldable pub dotsOn : ℕ → ℕ → Spot → Spot → ℕ → ℕ → List ℕ → List ℕ
 dotsOn w h a b colour zero s = s
 dotsOn w h a b colour (suc k) s =
-    dotOn w h (between (a .x) (b .x) (stepsOf a b) k) (between (a .y) (b .y) (stepsOf a b) k) colour (dotsOn w h a b colour k s)
+    dotOn w h (linePoint (a .x) (b .x) (stepsOf a b) k) (linePoint (a .y) (b .y) (stepsOf a b) k) colour (dotsOn w h a b colour k s)
 
 -- The plane s after a line from a to b: all its points, from 0 to the number of its steps. A plane stays where a side is outside 1..4,096
 -- or its bytes are not w × h.

@@ -1,11 +1,12 @@
 // Lines drawn into a plane: the pixels of a picture, one byte each, row by row. A line stays inside
 // the picture whatever its ends are.
-ghost use mathlib.Core.Path.{_≡_};
 ghost use mathlib.Core.Bool.{_&&_};
+ghost use mathlib.Core.Path.{_≡_};
 ghost use Prim.Native.Nat.{_+_, _≤_, _<_, max};
 ghost use lib.ListN.{length};
-ghost use Rattle.checks.specs.Picture.{Sides};
-ghost use Rattle.drawing.specs.Lines.{apart, stepsOf, between, onSide, dotOn, dotsOn, lineOn};
+ghost use Rattle.picture_checks.specs.Picture.{Sides};
+ghost use Rattle.laws.specs.Gap.{gap};
+ghost use Rattle.drawing.specs.Lines.{stepsOf, linePoint, onSide, dotOn, dotsOn, lineOn};
 
 pub mod claims;
 pub mod shapes;
@@ -19,8 +20,8 @@ pub struct Spot {
 
 // How far two numbers are apart.
 fn apart(a: u16, b: u16) -> usize
-    ensures { λ r. ⌜ r ≡ apart a b ⌝ }
-    ensures { λ r. ⌜ r ≤ 65535 ⌝ }
+    ensures answer { λ r. ⌜ r ≡ gap a b ⌝ }
+    ensures most { λ r. ⌜ r ≤ 65535 ⌝ }
 {
     if a < b {
         return (b - a) as usize;
@@ -37,8 +38,8 @@ fn larger(a: usize, b: usize) -> usize
 
 // The steps of a line.
 fn steps(a: Spot, b: Spot) -> usize
-    ensures { λ r. ⌜ r ≡ stepsOf a b ⌝ }
-    ensures { λ r. ⌜ (1 ≤ r) × (r ≤ 65535) ⌝ }
+    ensures answer { λ r. ⌜ r ≡ stepsOf a b ⌝ }
+    ensures bounds { λ r. ⌜ (1 ≤ r) × (r ≤ 65535) ⌝ }
 {
     let across = apart(a.x, b.x);
     let down = apart(a.y, b.y);
@@ -48,8 +49,8 @@ fn steps(a: Spot, b: Spot) -> usize
 // The number after k of n even steps from a to b.
 fn between(a: u16, b: u16, n: usize, k: usize) -> usize
     requires { ⌜ (1 ≤ n) × (n ≤ 65535) × (k ≤ n) ⌝ }
-    ensures { λ r. ⌜ r ≡ between a b n k ⌝ }
-    ensures { λ r. ⌜ r ≤ 65535 ⌝ }
+    ensures answer { λ r. ⌜ r ≡ linePoint a b n k ⌝ }
+    ensures most { λ r. ⌜ r ≤ 65535 ⌝ }
 {
     let weighted = a as usize * (n - k) + b as usize * k;
     (2 * weighted + n) / (2 * n)
@@ -108,7 +109,7 @@ fn dots(plane: &mut [u8], w: usize, h: usize, a: Spot, b: Spot, colour: u8)
 pub fn line(plane: &mut [u8], w: usize, h: usize, a: Spot, b: Spot, colour: u8)
     ensures { λ _. ⌜ now (plane .exit) ≡ lineOn w h a b colour (now (plane .entry)) ⌝ }
 {
-    if checks::check_picture(w, h, plane.len()) != 0 {
+    if picture_checks::check_picture(w, h, plane.len()) != 0 {
         return;
     }
     dots(plane, w, h, a, b, colour);

@@ -1,9 +1,14 @@
 -- The finder's checks and its answer: then-first, then-next, of a check that follows others; Passed, passed, what an accepted call knows;
--- picture-taken, the picture door's answer in it; given-is, refused-is. Assumes nothing.
+-- picture-taken, the picture door's answer in it; given-is, refused-is.
+--     a check that follows others: then-first, then-next, refuse-not, refuse-on, find-grids, find-short, find-version, find-none
+--     what an accepted call knows: Passed, passed, picture-taken
+--     the answer: given-is, refused-is
+--     the lent lists: not-four, number-is, number-given, refused-levels, refused-labels, refused-stack, given-past
+-- Assumes nothing.
 use mathlib.Core.Path.{_≡_, refl, sym, ap, _∙_}
 use mathlib.Core.Bool.{Bool, true, false, not}
 use mathlib.Core.List.{List}
-use Prim.Native.Nat.{ℕ, zero, suc, _*_, _≤_, _<_}
+use Prim.Native.Nat.{ℕ, zero, suc, _*_, _≤_}
 use native.Mathlib.Omega.{arith}
 use lib.Dec.{leb, eqb}
 use lib.ListN.{length}
@@ -13,15 +18,16 @@ use Rattle.laws.specs.Check.{orRefuse}
 use Rattle.laws.specs.Plane.{plane}
 use Rattle.laws.specs.Lent.{UntouchedPast}
 use Rattle.laws.proofs.Bools.{and-left, and-right, told-true, told-false}
-use Rattle.checks.specs.Picture.{isSide}
-use Rattle.checks.proofs.Checked.{check-step, side-in}
+use Rattle.picture_checks.specs.Picture.{isSide}
+use Rattle.picture_checks.proofs.Checked.{check-step, side-in}
 use Rattle.lcr_core.specs.Version.{isVersion}
 use Rattle.levels.specs.Level.{cells}
-use Rattle.regions.specs.Cells.{cellsOf, groupsOf}
-use Rattle.regions.specs.Door.{checkGrids, keptRegions, pictureAnswer, levelsAfter, labelsAfter, StackAfter}
-use Rattle.regions.specs.Door as door
+use Rattle.labels.specs.Cells.{cellsOf, groupsOf}
+use Rattle.picture.specs.Door.{checkGrids, pictureAnswer, levelsAfter, labelsAfter, StackAfter}
+use Rattle.regions.specs.Regions.{keptRegions}
+use Rattle.picture.specs.Door as door
 use Rattle.regions.specs.declared.answer.Kept.{Kept}
-use Rattle.regions.specs.declared.answer.PictureAnswer.{PictureAnswer}
+use Rattle.picture.specs.declared.answer.PictureAnswer.{PictureAnswer}
 use Rattle.picture.proofs.Outcomes.{check-few}
 use Rattle.ring.specs.Checks.{hasRoom}
 use Rattle.ring.proofs.Passing.{room-in, version-in}

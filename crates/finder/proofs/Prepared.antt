@@ -7,15 +7,15 @@ use native.Mathlib.Omega.{arith}
 use lib.ListN.{length}
 use lib.Ieee.{Float}
 use Rattle.levels.specs.Level.{cells}
-use Rattle.regions.specs.Cells.{cellsOf}
-use Rattle.regions.specs.Door.{pictureAnswer, levelsAfter, labelsAfter, StackAfter}
-use Rattle.regions.specs.Door as door
+use Rattle.labels.specs.Cells.{cellsOf}
+use Rattle.picture.specs.Door.{pictureAnswer, levelsAfter, labelsAfter, StackAfter}
+use Rattle.picture.specs.Door as door
 use Rattle.regions.specs.declared.answer.Kept.{Kept}
-use Rattle.regions.specs.declared.answer.PictureAnswer.{PictureAnswer}
+use Rattle.picture.specs.declared.answer.PictureAnswer.{PictureAnswer}
 use Rattle.region_outline.specs.Region.{needOf}
 use Rattle.finder.specs.declared.refusals.Rooms.{Rooms}
 use Rattle.finder.specs.Find.{checkFind}
-use Rattle.finder.specs.Inner.{Roomy, Ready}
+use Rattle.finder.specs.Inner.{Roomy, FinderReady}
 use Rattle.finder.proofs.Passing.{passed, picture-taken}
 use Rattle.region_outline.proofs.Points.{gridded}
 
@@ -48,7 +48,7 @@ module _ (s old₁ old₂ levels labels : List ℕ) (w h stack most : ℕ) (l : 
     (z : checkFind w h (length s) (length old₁) (length old₂) stack (l .points) (l .straight) (l .cand) (l .buf) most ≡ 0)
     (a : length levels ≡ length old₁) (b : length labels ≡ length old₂) (el : levels ≡ levelsAfter (r .refused) s w h old₁)
     (em : labels ≡ labelsAfter (r .refused) s w h old₂) where
-  pub ready : Ready s w h most levels labels (r .regions) l
+  pub ready : FinderReady s w h most levels labels (r .regions) l
   ready =
       let p = passed w h (length s) (length old₁) (length old₂) stack (l .points) (l .straight) (l .cand) (l .buf) most z in
       let t = picture-taken s w h (length old₁) (length old₂) stack r e (p .grids) in
@@ -63,7 +63,7 @@ module _ (s old₁ old₂ levels labels : List ℕ) (w h stack most : ℕ) (l : 
       }
 
 pub ready-roomy : (s levels labels : List ℕ) (w h most : ℕ) (k : Kept) (l : Rooms) (a b c d : List Float)
-    → Ready s w h most levels labels k l → l .points ≡ length a → l .straight ≡ length b → l .cand ≡ length c → l .buf ≡ length d
+    → FinderReady s w h most levels labels k l → l .points ≡ length a → l .straight ≡ length b → l .cand ≡ length c → l .buf ≡ length d
     → Roomy (needOf w h) a b c d
 ready-roomy s levels labels w h most k l a b c d q ea eb ec ed = record {
   first = omega (arith, q .room .0, ea);

@@ -1,5 +1,10 @@
 -- The regions of the tries: kept-four, tries-is, region-boxed, region-tried. Four lists: worked-none, worked-then, roomy-then. photo-sides
--- of a picture. Assumes nothing.
+-- of a picture.
+--     a picture: photo-sides
+--     four lists: worked-none, worked-then, worked-one, roomy-then
+--     the tries by the kept regions: tries-two, tries-one, by-list, by-all, kept-is, kept-four, all-groups, tries-is, region-tried,
+--     region-boxed
+-- Assumes nothing.
 use mathlib.Core.Path.{_≡_, refl, sym, ap, _∙_, subst}
 use mathlib.Core.Bool.{Bool, cond}
 use mathlib.Core.List.{List}
@@ -9,18 +14,18 @@ use lib.Dec.{ltb}
 use lib.ListN.{length, getD}
 use lib.Ieee.{Float}
 use borrow.Author.Tests.{lt-ltb, le-ltb}
+use Rattle.laws.specs.Move.{boxAt}
 use Rattle.laws.specs.Fold.{bit}
 use Rattle.laws.specs.Plane.{Plane}
 use Rattle.laws.specs.Lent.{UntouchedPast}
 use Rattle.laws.proofs.Past.{past-none, past-then, past-more}
-use Rattle.checks.specs.Picture.{Sides}
-use Rattle.regions.specs.Cells.{groupsOf}
+use Rattle.picture_checks.specs.Picture.{Sides}
+use Rattle.labels.specs.Cells.{groupsOf}
 use Rattle.regions.specs.Kept.{keptCount, keptLabel}
-use Rattle.regions.specs.Door.{noRegion, region, keptRegions}
+use Rattle.regions.specs.Regions.{noRegion, region, keptRegions}
 use Rattle.regions.specs.declared.answer.Region.{Region}
 use Rattle.regions.specs.declared.answer.Kept.{Kept}
 use Rattle.boundary.specs.Boundary.{isMember, boundary, outlineOf}
-use Rattle.outline.specs.Door.{boxAt}
 use Rattle.region_outline.specs.Region.{regionPoints, Boxed}
 use Rattle.region_outline.proofs.Points.{count-four, listed, kept-boxed}
 use Rattle.search.specs.Samples.{Photo}
@@ -69,8 +74,8 @@ tries-one k l =
     let z : k .kept ≡ k .kept + 0 = omega arith in z ∙ sym (ap (λ (b : Bool). k .kept + bit b) (le-ltb 1 (k .all) l))
 
 module _ (k : Kept) (i w h : ℕ) where
-  pub by-list : i < k .kept → getD (k .list) i (record { label = 0; cells = 0; x0 = 0; y0 = 0; x1 = 0; y1 = 0 }) ≡ regionBy k i w h
-  unfolding regionBy noRegion
+  pub by-list : i < k .kept → getD (k .list) i noRegion ≡ regionBy k i w h
+  unfolding regionBy
   by-list l = sym (ap (λ (b : Bool). cond b (getD (k .list) i noRegion) (wholeRegion w h)) (lt-ltb i (k .kept) l))
 
   pub by-all : k .kept ≤ i → record { label = 0; cells = 0; x0 = 0; y0 = 0; x1 = w; y1 = h } ≡ regionBy k i w h

@@ -4,7 +4,7 @@
 use mathlib.Core.Path.{_≡_, refl, _∙_, subst}
 use mathlib.Core.Bool.{true, false}
 use mathlib.Core.List.{List, [], _∷_, List·Memᴰ, List·Memᴰ·head, List·Memᴰ·tail}
-use Prim.Native.Nat.{ℕ, zero, suc, _+_, _-_, _*_, _^_, _%_, _≤_, _<_}
+use Prim.Native.Nat.{ℕ, zero, suc, _+_, _*_, _^_, _%_, _≤_, _<_}
 use native.Mathlib.Omega.{arith}
 use lib.Dec.{lit≤}
 use lib.IntN.{pos}
@@ -12,20 +12,19 @@ use lib.Ieee.{Float, nan, inf, fin, binary32, le, lt, eq, ofBits}
 use lib.Ieee.Exact.{HasValue}
 use lib.ListN.{length, getD}
 use borrow.Author.Tests.{lt-ltb, le-leb, eq-eqb}
+use Rattle.hull.proofs.Floats.{length-floats}
 use Rattle.laws.specs.Move.{Box}
 use Rattle.laws.specs.Plane.{plane}
 use Rattle.laws.proofs.Bools.{both, or-left}
 use Rattle.lcr_core.specs.Version.{isVersion}
-use Rattle.ieee.specs.Val.{Val}
+use Rattle.ieee.specs.Inner.{Val}
 use Rattle.ieee.specs.Ops.{abs, finite}
 use Rattle.ieee.proofs.Vals.{exact, lt-val}
 use Rattle.hull.specs.Points.{halfOf, numbersOf, floatsOf}
 use Rattle.boundary.specs.Boundary.{isMember}
 use Rattle.boundary.proofs.Boundary.{Within}
 use Rattle.boundary.proofs.Outlines.{boundary-within}
-use Rattle.outline.specs.Door.{boxAt}
-use Rattle.outline.proofs.Writes.{length-floats}
-use Rattle.regions.specs.Door.{keptRegions}
+use Rattle.regions.specs.Regions.{keptRegions, boxIn}
 use Rattle.regions.specs.declared.answer.Region.{Region}
 use Rattle.search.specs.Samples.{Photo}
 use Rattle.ring.specs.Checks.{coordinateOf, coordinatesOn, checkRing}
@@ -81,7 +80,7 @@ module _ (gray : List ℕ) (w h : ℕ) (t : Photo gray w h) (r : Region) (g : Bo
   points = regionPoints (plane w gray) w h r
 
   abbrev box : Box
-  box = boxAt (r .x0) (r .y0) (r .x1) (r .y1)
+  box = boxIn r
 
   within : Within box w h
   within = record { across′ = omega (arith, g .across); down′ = omega (arith, g .down); wide = g .right; high = g .bottom }

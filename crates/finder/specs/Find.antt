@@ -4,16 +4,16 @@ use Prim.Native.Nat.{ℕ, zero, suc, _+_}
 use mathlib.Core.Bool.{Bool, cond, _&&_}
 use mathlib.Core.List.{List}
 use lib.Dec.{leb, ltb}
+use Rattle.laws.specs.Move.{boxAt}
 use Rattle.laws.specs.Check.{orRefuse}
 use Rattle.laws.specs.Fold.{bit}
 use Rattle.laws.specs.Plane.{Plane, plane}
 use Rattle.laws.specs.Said.{Said}
 use Rattle.lcr_core.specs.Version.{isVersion}
-use Rattle.regions.specs.Cells.{groupsOf}
+use Rattle.labels.specs.Cells.{groupsOf}
 use Rattle.regions.specs.Kept.{keptCount, keptLabel}
-use Rattle.regions.specs.Door.{checkGrids}
+use Rattle.picture.specs.Door.{checkGrids}
 use Rattle.boundary.specs.Boundary.{isMember, boundary, outlineOf}
-use Rattle.outline.specs.Door.{boxAt}
 use Rattle.region_outline.specs.Region.{needOf}
 use Rattle.hull.specs.Points.{floatsOf}
 use Rattle.accept.specs.declared.Fixed.the-variants.{NoFix}
@@ -44,10 +44,10 @@ tryOf gray w h most i = attemptOf gray w h (floatsOf (tryPoints (plane w gray) w
 
 -- ---- which trace stands
 -- Of the first n traces of f: the first with a fix, else the first of those with the greatest top score; none is the empty trace.
-unfoldable pub bestOf : (ℕ → Trace) → ℕ → Trace
-bestOf f zero = shortTrace 0
-bestOf f (suc zero) = f 0
-bestOf f (suc (suc n)) = firstOf (bestOf f (suc n)) (f (suc n))
+unfoldable pub bestTrace : (ℕ → Trace) → ℕ → Trace
+bestTrace f zero = shortTrace 0
+bestTrace f (suc zero) = f 0
+bestTrace f (suc (suc n)) = firstOf (bestTrace f (suc n)) (f (suc n))
 
 -- Without a fix the fallback is promoted to it.
 unfoldable pub promotedOf : Trace → Trace
@@ -57,7 +57,7 @@ promotedOf t =
 
 -- The trace of a picture.
 unfoldable pub traceOf : List ℕ → ℕ → ℕ → ℕ → Trace
-traceOf gray w h most = promotedOf (bestOf (tryOf gray w h most) (triesOf (plane w gray) w h))
+traceOf gray w h most = promotedOf (bestTrace (tryOf gray w h most) (triesOf (plane w gray) w h))
 
 -- ---- the checks
 -- Four lists of lengths a, b, c and d have n numbers or more.

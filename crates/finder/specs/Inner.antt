@@ -9,7 +9,7 @@ use lib.ListN.{length, getD}
 use Rattle.laws.specs.Fold.{bit}
 use Rattle.laws.specs.Lent.{UntouchedPast}
 use Rattle.laws.specs.Plane.{plane}
-use Rattle.regions.specs.Door.{noRegion, keptRegions}
+use Rattle.regions.specs.Regions.{noRegion, keptRegions}
 use Rattle.regions.specs.declared.answer.Region.{Region}
 use Rattle.regions.specs.declared.answer.Kept.{Kept}
 use Rattle.region_outline.specs.Region.{needOf, Gridded}
@@ -43,7 +43,7 @@ pub record Worked (n : ℕ) (a a′ b b′ c c′ d d′ : List Float) : Type 0 
 
 -- What an accepted call knows once the picture door has made the level grid, the labels and the regions: l has the lengths of the lists of
 -- numbers.
-pub record Ready (s : List ℕ) (w h most : ℕ) (levels labels : List ℕ) (k : Kept) (l : Rooms) : Type 0 where
+pub record FinderReady (s : List ℕ) (w h most : ℕ) (levels labels : List ℕ) (k : Kept) (l : Rooms) : Type 0 where
   pub photo : Photo s w h
   pub grids : Gridded s w h levels labels
   pub kept : k ≡ keptRegions (plane w s) w h

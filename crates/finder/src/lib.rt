@@ -12,7 +12,7 @@ use ring::quads::Trace;
 ghost use mathlib.Core.Path.{_≡_};
 ghost use lib.ListN.{length};
 ghost use Rattle.laws.specs.Lent.{UntouchedPast};
-ghost use Rattle.regions.specs.Door.{levelsAfter, labelsAfter, StackAfter};
+ghost use Rattle.picture.specs.Door.{levelsAfter, labelsAfter, StackAfter};
 ghost use Rattle.region_outline.specs.Region.{needOf};
 ghost use Rattle.finder.specs.Find.{checkFind, refusedBy, answerBy, numberOf, neededOf};
 

@@ -62,10 +62,10 @@ pub fn try_one(
     requires { ⌜ Boxed w h r ⌝ }
     requires { ⌜ most ≤ 64 ⌝ }
     requires { ⌜ Roomy (needOf w h) (now points) (now straight) (now cand) (now buf) ⌝ }
-    ensures { λ t. ⌜
+    ensures answer { λ t. ⌜
         t ≡ attemptOf (now (gray .entry)) w h
         (floatsOf (regionPoints (plane w (now (gray .entry))) w h r)) most ⌝ }
-    ensures { λ _. ⌜
+    ensures points { λ _. ⌜
         Worked (needOf w h) (now (points .entry)) (now (points .exit))
         (now (straight .entry)) (now (straight .exit)) (now (cand .entry)) (now (cand .exit))
         (now (buf .entry)) (now (buf .exit)) ⌝ }

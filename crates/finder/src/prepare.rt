@@ -1,14 +1,14 @@
 // What every entry over the outlines of a picture begins with: all checks, then the picture door.
 use crate::refusals::Rooms;
 use crate::refusals::check;
-use regions::answer::PictureAnswer;
+use picture::answer::PictureAnswer;
 ghost use mathlib.Core.Path.{_≡_};
 ghost use lib.ListN.{length};
 ghost use Rattle.laws.specs.Plane.{plane};
-ghost use Rattle.regions.specs.Door.{keptRegions, answerBy};
-ghost use Rattle.regions.specs.Door.{levelsAfter, labelsAfter, StackAfter};
+ghost use Rattle.regions.specs.Regions.{keptRegions};
+ghost use Rattle.picture.specs.Door.{answerBy, levelsAfter, labelsAfter, StackAfter};
 ghost use Rattle.finder.specs.Find.{checkFind};
-ghost use Rattle.finder.specs.Inner.{Ready};
+ghost use Rattle.finder.specs.Inner.{FinderReady};
 
 // The regions of a picture with its level grid and labels, where all checks pass: those of the
 // picture door, of lists of numbers of these lengths, and of the greatest version.
@@ -35,7 +35,7 @@ pub fn prepare(
     ensures stack { λ r. ⌜
         StackAfter (r .refused) w h (now (stack .entry)) (now (stack .exit)) ⌝ }
     ensures ready { λ r. ⌜
-        (r .refused ≡ 0 → Ready (now (gray .entry)) w h most (now (levels .exit))
+        (r .refused ≡ 0 → FinderReady (now (gray .entry)) w h most (now (levels .exit))
         (now (labels .exit)) (r .regions) l) ⌝ }
 {
     let a = levels.len();

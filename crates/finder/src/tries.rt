@@ -11,11 +11,11 @@ use ring::quads::is_fixed;
 ghost use mathlib.Core.Path.{_≡_};
 ghost use Prim.Native.Nat.{_+_, _≤_};
 ghost use Rattle.laws.specs.Plane.{plane};
-ghost use Rattle.regions.specs.Door.{keptRegions};
+ghost use Rattle.regions.specs.Regions.{keptRegions};
 ghost use Rattle.hull.specs.Points.{floatsOf};
 ghost use Rattle.search.specs.Samples.{Photo};
 ghost use Rattle.ring.specs.Trace.{firstOf, attemptOf};
-ghost use Rattle.finder.specs.Find.{triesOf, tryOf, bestOf, traceOf};
+ghost use Rattle.finder.specs.Find.{triesOf, tryOf, bestTrace, traceOf};
 ghost use Rattle.finder.specs.Inner.{Roomy, Worked};
 ghost use Rattle.region_outline.specs.Region.{needOf, Gridded, Boxed, regionPoints};
 
@@ -40,10 +40,10 @@ fn try_more(
     requires { ⌜ most ≤ 64 ⌝ }
     requires { ⌜ best .scores .many ≤ 64 ⌝ }
     requires { ⌜ Roomy (needOf w h) (now points) (now straight) (now cand) (now buf) ⌝ }
-    ensures { λ t. ⌜
+    ensures answer { λ t. ⌜
         t ≡ firstOf best (attemptOf (now (gray .entry)) w h
         (floatsOf (regionPoints (plane w (now (gray .entry))) w h r)) most) ⌝ }
-    ensures { λ _. ⌜
+    ensures points { λ _. ⌜
         Worked (needOf w h) (now (points .entry)) (now (points .exit))
         (now (straight .entry)) (now (straight .exit)) (now (cand .entry)) (now (cand .exit))
         (now (buf .entry)) (now (buf .exit)) ⌝ }
@@ -88,10 +88,10 @@ pub fn try_next(
     requires { ⌜ Gridded (now gray) w h (now levels) (now labels) ⌝ }
     requires { ⌜ k ≡ keptRegions (plane w (now gray)) w h ⌝ }
     requires { ⌜ most ≤ 64 ⌝ }
-    requires { ⌜ best ≡ bestOf (tryOf (now gray) w h most) i ⌝ }
+    requires { ⌜ best ≡ bestTrace (tryOf (now gray) w h most) i ⌝ }
     requires { ⌜ Roomy (needOf w h) (now points) (now straight) (now cand) (now buf) ⌝ }
-    ensures { λ t. ⌜ t ≡ bestOf (tryOf (now (gray .entry)) w h most) (i + 1) ⌝ }
-    ensures { λ _. ⌜
+    ensures answer { λ t. ⌜ t ≡ bestTrace (tryOf (now (gray .entry)) w h most) (i + 1) ⌝ }
+    ensures points { λ _. ⌜
         Worked (needOf w h) (now (points .entry)) (now (points .exit))
         (now (straight .entry)) (now (straight .exit)) (now (cand .entry)) (now (cand .exit))
         (now (buf .entry)) (now (buf .exit)) ⌝ }
@@ -147,10 +147,10 @@ fn try_all(
     requires { ⌜ k ≡ keptRegions (plane w (now gray)) w h ⌝ }
     requires { ⌜ most ≤ 64 ⌝ }
     requires { ⌜ Roomy (needOf w h) (now points) (now straight) (now cand) (now buf) ⌝ }
-    ensures { λ t. ⌜
-        t ≡ bestOf (tryOf (now (gray .entry)) w h most)
+    ensures answer { λ t. ⌜
+        t ≡ bestTrace (tryOf (now (gray .entry)) w h most)
         (triesOf (plane w (now (gray .entry))) w h) ⌝ }
-    ensures { λ _. ⌜
+    ensures points { λ _. ⌜
         Worked (needOf w h) (now (points .entry)) (now (points .exit))
         (now (straight .entry)) (now (straight .exit)) (now (cand .entry)) (now (cand .exit))
         (now (buf .entry)) (now (buf .exit)) ⌝ }
@@ -198,8 +198,8 @@ pub(crate) fn trace(
     requires { ⌜ k ≡ keptRegions (plane w (now gray)) w h ⌝ }
     requires { ⌜ most ≤ 64 ⌝ }
     requires { ⌜ Roomy (needOf w h) (now points) (now straight) (now cand) (now buf) ⌝ }
-    ensures { λ t. ⌜ t ≡ traceOf (now (gray .entry)) w h most ⌝ }
-    ensures { λ _. ⌜
+    ensures answer { λ t. ⌜ t ≡ traceOf (now (gray .entry)) w h most ⌝ }
+    ensures points { λ _. ⌜
         Worked (needOf w h) (now (points .entry)) (now (points .exit))
         (now (straight .entry)) (now (straight .exit)) (now (cand .entry)) (now (cand .exit))
         (now (buf .entry)) (now (buf .exit)) ⌝ }

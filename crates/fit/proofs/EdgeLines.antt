@@ -3,7 +3,7 @@
 --   edge-short, edge-few, edge-fit           an edge under 16, with fewer than 8 points, and its line by consensus
 --   no-trial, no-support, supported          no trial line, too few that agree, and the line refitted
 --   refined-by, edges-by                     the refined quad and the quad of the edges, by their four lines
-use mathlib.Core.Path.{_≡_, refl, sym, ap, _∙_}
+use mathlib.Core.Path.{_≡_, sym, ap, _∙_}
 use mathlib.Core.Bool.{Bool, true, false, cond}
 use mathlib.Core.List.{List}
 use Prim.Native.Nat.{ℕ, _*_, _≤_, _<_}
@@ -12,16 +12,16 @@ use lib.Dec.{ltb, eqb}
 use lib.Ieee.{Float, lt}
 use borrow.Author.Tests.{lt-ltb, le-ltb, eq-eqb, ne-eqb}
 use Rattle.ieee.specs.Ops.{max}
-use Rattle.ieee.specs.Constants.{0·02, 0·35}
+use Rattle.ieee.specs.Constants.{0·02, 0·35, 2f}
 use Rattle.hull.specs.Points.{many}
 use Rattle.hull.specs.declared.points.Point.{Point}
 use Rattle.hull.specs.declared.points.Quad.{Quad}
 use Rattle.hull.specs.declared.points.Corners.{Corners}
-use Rattle.fit.specs.F32.{_⊗_, whole, 1·5, 2f, 3f, 16f}
+use Rattle.fit.specs.F32.{_⊗_, wholeFloat, 1·5, 3f, 16f}
 use Rattle.fit.specs.Select.{KeptIn}
 use Rattle.fit.specs.Line.{refitOf}
-use Rattle.fit.specs.Corner.{edgeOf, hullLine, afterLine, orQuad, refinedAt, refinedOf}
-use Rattle.fit.specs.Consensus.{searchOf, trialsOf, consensusOf, edgeLine, edgeAt, edgeQuad}
+use Rattle.fit.specs.Corner.{edgeFrom, hullLine, afterLine, orQuad, refinedAt, refinedOf}
+use Rattle.fit.specs.Consensus.{searchRange, trialsOf, consensusOf, edgeLine, edgeAt, edgeQuad}
 use Rattle.fit.specs.declared.line.Edge.{Edge}
 use Rattle.fit.specs.declared.line.Line.{Line}
 use Rattle.fit.specs.declared.line.Line.the-variants.{Along, NoLine}
@@ -30,7 +30,7 @@ use Rattle.fit.proofs.Selects.{kept-half, kept-front}
 use Rattle.fit.proofs.Lines.{refined-after, edges-after}
 
 -- ---- an edge of the hull
-module _ (s : List Float) (a b : Point) (e : Edge) (is : e ≡ edgeOf a b) where
+module _ (s : List Float) (a b : Point) (e : Edge) (is : e ≡ edgeFrom a b) where
   abbrev refitted : Edge → Line
   refitted e = refitOf s e (max (e .len ⊗ 0·02) 2f) 1·5 (Along (a .x) (a .y) (e .ux) (e .uy))
 
@@ -49,9 +49,9 @@ module _ (s : List Float) (a b : Point) (e : Edge) (is : e ≡ edgeOf a b) where
       q ∙ ap (λ (w : Float). refitOf s e w 1·5 (Along (a .x) (a .y) (e .ux) (e .uy))) ew ∙ hull-by false h
 
 -- ---- an edge by consensus
-module _ (s : List Float) (a b : Point) (e : Edge) (is : e ≡ edgeOf a b) where
+module _ (s : List Float) (a b : Point) (e : Edge) (is : e ≡ edgeFrom a b) where
   abbrev found : Edge → Line
-  found e = cond (ltb (many (searchOf e s)) 8) NoLine (consensusOf (searchOf e s) e)
+  found e = cond (ltb (many (searchRange e s)) 8) NoLine (consensusOf (searchRange e s) e)
 
   edge-by : (t : Bool) → lt (e .len) 16f ≡ t → cond t NoLine (found e) ≡ edgeLine s a b
   unfolding edgeLine
@@ -61,11 +61,11 @@ module _ (s : List Float) (a b : Point) (e : Edge) (is : e ≡ edgeOf a b) where
   pub edge-short : lt (e .len) 16f ≡ true → NoLine ≡ edgeLine s a b
   edge-short h = edge-by true h
 
-  module _ {old new : List Float} {m : ℕ} (long : lt (e .len) 16f ≡ false) (q : KeptIn (length s) (searchOf e s) old new m) where
-    held-by : (t : Bool) → ltb m 8 ≡ t → cond t NoLine (consensusOf (searchOf e s) e) ≡ edgeLine s a b
+  module _ {old new : List Float} {m : ℕ} (long : lt (e .len) 16f ≡ false) (q : KeptIn (length s) (searchRange e s) old new m) where
+    held-by : (t : Bool) → ltb m 8 ≡ t → cond t NoLine (consensusOf (searchRange e s) e) ≡ edgeLine s a b
     held-by t h =
-        ap (λ (t : Bool). cond t NoLine (consensusOf (searchOf e s) e)) (sym h)
-        ∙ sym (ap (λ (n : ℕ). cond (ltb n 8) NoLine (consensusOf (searchOf e s) e)) (kept-half q))
+        ap (λ (t : Bool). cond t NoLine (consensusOf (searchRange e s) e)) (sym h)
+        ∙ sym (ap (λ (n : ℕ). cond (ltb n 8) NoLine (consensusOf (searchRange e s) e)) (kept-half q))
         ∙ edge-by false long
 
     pub edge-few : m < 8 → NoLine ≡ edgeLine s a b
@@ -80,7 +80,7 @@ module _ (s : List Float) (e : Edge) (best : Trial) (is : best ≡ trialsOf s (e
   around best = refitOf s e 3f 1·5 (Along (best .x) (best .y) (best .u) (best .v))
 
   abbrev backed : Trial → Line
-  backed best = cond (lt (whole (best .count)) (0·35 ⊗ e .len)) NoLine (around best)
+  backed best = cond (lt (wholeFloat (best .count)) (0·35 ⊗ e .len)) NoLine (around best)
 
   consensus-by : (t : Bool) → eqb (best .count) 0 ≡ t → cond t NoLine (backed best) ≡ consensusOf s e
   unfolding consensusOf
@@ -91,14 +91,14 @@ module _ (s : List Float) (e : Edge) (best : Trial) (is : best ≡ trialsOf s (e
   no-trial h = consensus-by true (eq-eqb (best .count) 0 h)
 
   module _ (some : best .count ≡ 0 → ⊥) where
-    support-by : (t : Bool) → lt (whole (best .count)) (0·35 ⊗ e .len) ≡ t → cond t NoLine (around best) ≡ consensusOf s e
+    support-by : (t : Bool) → lt (wholeFloat (best .count)) (0·35 ⊗ e .len) ≡ t → cond t NoLine (around best) ≡ consensusOf s e
     support-by t h =
         ap (λ (t : Bool). cond t NoLine (around best)) (sym h) ∙ consensus-by false (ne-eqb (best .count) 0 some)
 
-    pub no-support : lt (whole (best .count)) (0·35 ⊗ e .len) ≡ true → NoLine ≡ consensusOf s e
+    pub no-support : lt (wholeFloat (best .count)) (0·35 ⊗ e .len) ≡ true → NoLine ≡ consensusOf s e
     no-support h = support-by true h
 
-    pub supported : (r : Line) → lt (whole (best .count)) (0·35 ⊗ e .len) ≡ false
+    pub supported : (r : Line) → lt (wholeFloat (best .count)) (0·35 ⊗ e .len) ≡ false
         → r ≡ refitOf s e 3f 1·5 (Along (best .x) (best .y) (best .u) (best .v)) → r ≡ consensusOf s e
     supported r h q = q ∙ support-by false h
 

@@ -15,7 +15,7 @@ use Rattle.hull.specs.declared.points.Quad.{Quad}
 use Rattle.hull.specs.declared.points.Corners.{Corners}
 use Rattle.hull.specs.declared.points.Corners.the-variants.{NoQuad}
 use Rattle.fit.specs.Select.{KeptIn}
-use Rattle.fit.specs.Line.{tlsOf, middleOf, passOf, crossOf}
+use Rattle.fit.specs.Line.{tlsOf, middlePoints, linePass, crossOf}
 use Rattle.fit.specs.Corner.{nearCorner, cornersOf, afterLine, refinedAt}
 use Rattle.fit.specs.Consensus.{keepCorner, limitOf, edgeAt}
 use Rattle.fit.specs.declared.line.Edge.{Edge}
@@ -26,23 +26,23 @@ use Rattle.fit.specs.declared.line.Crossing.the-variants.{At, NoCrossing
 use Rattle.fit.proofs.Selects.{kept-half, kept-front}
 
 -- ---- a pass
-pub pass-none : (s : List Float) (e : Edge) (tol : Float) (line : Line) → line ≡ NoLine → NoLine ≡ passOf s e tol line
-unfolding passOf
-pass-none s e tol line h = sym (ap (passOf s e tol) h)
+pub pass-none : (s : List Float) (e : Edge) (tol : Float) (line : Line) → line ≡ NoLine → NoLine ≡ linePass s e tol line
+unfolding linePass
+pass-none s e tol line h = sym (ap (linePass s e tol) h)
 
 module _ (s : List Float) (e : Edge) (tol : Float) (line : Line) {x y u v : Float} {old new : List Float} {m : ℕ}
-    (h : line ≡ Along x y u v) (q : KeptIn (length s) (middleOf e x y u v tol s) old new m) where
-  fit-by : (b : Bool) → ltb m 8 ≡ b → passOf s e tol line ≡ cond b NoLine (tlsOf (middleOf e x y u v tol s))
-  unfolding passOf
+    (h : line ≡ Along x y u v) (q : KeptIn (length s) (middlePoints e x y u v tol s) old new m) where
+  fit-by : (b : Bool) → ltb m 8 ≡ b → linePass s e tol line ≡ cond b NoLine (tlsOf (middlePoints e x y u v tol s))
+  unfolding linePass
   fit-by b t =
-      ap (passOf s e tol) h
-      ∙ ap (λ (n : ℕ). cond (ltb n 8) NoLine (tlsOf (middleOf e x y u v tol s))) (kept-half q)
-      ∙ ap (λ (b : Bool). cond b NoLine (tlsOf (middleOf e x y u v tol s))) t
+      ap (linePass s e tol) h
+      ∙ ap (λ (n : ℕ). cond (ltb n 8) NoLine (tlsOf (middlePoints e x y u v tol s))) (kept-half q)
+      ∙ ap (λ (b : Bool). cond b NoLine (tlsOf (middlePoints e x y u v tol s))) t
 
-  pub pass-few : m < 8 → NoLine ≡ passOf s e tol line
+  pub pass-few : m < 8 → NoLine ≡ linePass s e tol line
   pass-few t = sym (fit-by true (lt-ltb m 8 t))
 
-  pub pass-fit : (r : Line) → 8 ≤ m → r ≡ tlsOf (take (2 * m) new) → r ≡ passOf s e tol line
+  pub pass-fit : (r : Line) → 8 ≤ m → r ≡ tlsOf (take (2 * m) new) → r ≡ linePass s e tol line
   pass-fit r t z = z ∙ ap tlsOf (kept-front q) ∙ sym (fit-by false (le-ltb m 8 t))
 
 -- ---- a line that is none makes every corner none, whatever the lines after it

@@ -5,17 +5,17 @@
 use mathlib.Core.Path.{_≡_, refl, sym, ap, _∙_, subst}
 use mathlib.Core.Bool.{Bool, true, false, cond}
 use mathlib.Core.List.{List, [], _∷_, _++_, append-assoc, append-nil}
-use Prim.Native.Nat.{ℕ, suc, _+_, _-_, _*_, _/_, _≤_, _<_}
+use Prim.Native.Nat.{ℕ, suc, _+_, _-_, _*_, _≤_, _<_}
 use native.Mathlib.Nat.{sub-zero}
 use native.Mathlib.Omega.{arith}
-use lib.ListN.{length, getD, set, take, drop, length-set, length-append, length-drop, take-append-drop}
+use lib.ListN.{length, set, take, drop, length-set, length-append, length-drop, take-append-drop}
 use lib.Seq.{take-suc-set, drop-set-lt, length-take-le, take-at}
-use lib.Ieee.{Float, nan}
+use lib.Ieee.{Float}
 use Rattle.laws.proofs.Past.{drop-more, past-front}
 use Rattle.laws.proofs.Steps.{one-less, none-left}
 use Rattle.hull.specs.Points.{many}
 use Rattle.fit.specs.F32.{xOf, yOf}
-use Rattle.fit.specs.Select.{Held, putOf, Rule, keptOn, keptOf, KeptIn}
+use Rattle.fit.specs.Select.{HeldPoints, putOf, Rule, keptOn, pointsBy, KeptIn}
 use Rattle.laws.specs.Lent.{UntouchedPast}
 
 -- After k points of s the list holds m of them, and the rest of the definition is what is still to be kept.
@@ -23,7 +23,7 @@ pub record Selecting (r : Rule) (s old list : List Float) (k m : ℕ) : Type 0 w
   pub few : m ≤ k
   pub passed : k ≤ many s
   pub long : length list ≡ length old
-  pub front : take (2 * m) list ++ keptOn r s (many s - k) k ≡ keptOf r s
+  pub front : take (2 * m) list ++ keptOn r s (many s - k) k ≡ pointsBy r s
   pub rest : drop (2 * m) list ≡ drop (2 * m) old
 
 pub selecting-begin : (r : Rule) (s old : List Float) → Selecting r s old old 0 0
@@ -70,13 +70,13 @@ module _ (r : Rule) (s : List Float) (k : ℕ) where
       ap (λ (d : ℕ). keptOn r s d k) (one-less n k h) ∙ ap (λ (b : Bool). cond b (x ∷ y ∷ after n) (after n)) e
 
   turn-by : (old list : List Float) (m : ℕ) (b : Bool) → r .keep (xOf s k) (yOf s k) ≡ b → k < many s → length s ≤ length old
-      → Selecting r s old list k m → (h : Held) → h ≡ putOf b x y record { list = list; held = m }
+      → Selecting r s old list k m → (h : HeldPoints) → h ≡ putOf b x y record { list = list; held = m }
       → Selecting r s old (h .list) (k + 1) (h .held)
   turn-by old list m true t more room q h e =
       let f = q .few in
       let fit : 2 * m + 1 < length list = (let z = q .long in omega arith) in
       let two : 2 * (m + 1) ≡ 2 * m + 2 = omega arith in
-      subst (λ (h : Held). Selecting r s old (h .list) (k + 1) (h .held)) (sym e) record {
+      subst (λ (h : HeldPoints). Selecting r s old (h .list) (k + 1) (h .held)) (sym e) record {
         few = omega arith;
         passed = omega arith;
         long = simp length-set (q .long);
@@ -94,7 +94,7 @@ module _ (r : Rule) (s : List Float) (k : ℕ) where
       }
   turn-by old list m false t more room q h e =
       let f = q .few in
-      subst (λ (h : Held). Selecting r s old (h .list) (k + 1) (h .held)) (sym e) record {
+      subst (λ (h : HeldPoints). Selecting r s old (h .list) (k + 1) (h .held)) (sym e) record {
         few = omega arith;
         passed = omega arith;
         long = q .long;
@@ -119,13 +119,13 @@ unfolding keptOn
 kept-none r s n k h = ap (λ (d : ℕ). keptOn r s d k) (none-left n k h)
 
 pub selecting-end : (r : Rule) (s old list : List Float) (k m : ℕ) → many s ≤ k → length s ≤ length old → Selecting r s old list k m
-    → KeptIn (length s) (keptOf r s) old list m
+    → KeptIn (length s) (pointsBy r s) old list m
 selecting-end r s old list k m over room q =
     let f = q .few in
     let p = q .passed in
     let g = q .long in
     let short : 2 * m ≤ length list = omega arith in
-    let all : take (2 * m) list ≡ keptOf r s =
+    let all : take (2 * m) list ≡ pointsBy r s =
     sym (append-nil (take (2 * m) list))
     ∙ ap (λ (l : List Float). take (2 * m) list ++ l) (sym (kept-none r s (many s) k over))
     ∙ q .front in
@@ -134,7 +134,7 @@ selecting-end r s old list k m over room q =
       list =
           sym (take-append-drop (2 * m) list)
           ∙ ap (λ (l : List Float). l ++ drop (2 * m) list) all
-          ∙ ap (λ (l : List Float). keptOf r s ++ l) (q .rest);
+          ∙ ap (λ (l : List Float). pointsBy r s ++ l) (q .rest);
       count = ap length (sym all) ∙ length-take-le (2 * m) list short;
     }
 

@@ -14,10 +14,11 @@ use borrow.Author.Tests.{lt-ltb, le-ltb}
 use Rattle.laws.proofs.Steps.{on, done, from-zero}
 use Rattle.ieee.specs.Root.{sqrt}
 use Rattle.ieee.specs.Ops.{abs}
-use Rattle.hull.specs.Points.{0f, many}
+use Rattle.hull.specs.Points.{many}
 use Rattle.hull.specs.declared.points.Point.{Point}
-use Rattle.fit.specs.F32.{_⊕_, _⊖_, _⊗_, _⊘_, whole, 2f, xOf, yOf}
-use Rattle.fit.specs.Line.{pointOf, sumsOn, sumsOf, scatterOn, spreadOf, scatterOf, alongOf, axisOf, tlsOf}
+use Rattle.fit.specs.F32.{_⊕_, _⊖_, _⊗_, _⊘_, wholeFloat, xOf, yOf}
+use Rattle.ieee.specs.Constants.{0f, 2f}
+use Rattle.fit.specs.Line.{pointOf, sumsOn, sumsOf, scatterOn, spreadOf, scatterOf, alongLine, axisOf, tlsOf}
 use Rattle.fit.specs.declared.line.Scatter.{Scatter}
 use Rattle.fit.specs.declared.line.Line.{Line}
 
@@ -85,7 +86,7 @@ module _ (m : Point) (t : Scatter) (r p q : Float) where
 
   -- the two forms, by the root, the two magnitudes and the test between them
   abbrev formsBy : Bool → Float → Line
-  formsBy b r = cond b (alongOf m (valueBy r ⊖ t .yy) (t .xy)) (alongOf m (t .xy) (valueBy r ⊖ t .xx))
+  formsBy b r = cond b (alongLine m (valueBy r ⊖ t .yy) (t .xy)) (alongLine m (t .xy) (valueBy r ⊖ t .xx))
 
   pub axis-by : (b : Bool) → r ≡ sqrt binary32 (half ⊗ half ⊕ t .xy ⊗ t .xy) → p ≡ abs (valueBy r ⊖ t .yy)
       → q ≡ abs (valueBy r ⊖ t .xx) → le q p ≡ b → formsBy b r ≡ axisOf m t
@@ -98,7 +99,7 @@ module _ (m : Point) (t : Scatter) (r p q : Float) where
 
 -- ---- the line
 abbrev meanBy : List Float → Point → Point
-meanBy s t = pointOf (t .x ⊘ whole (many s)) (t .y ⊘ whole (many s))
+meanBy s t = pointOf (t .x ⊘ wholeFloat (many s)) (t .y ⊘ wholeFloat (many s))
 
 pub tls-by : (s : List Float) (t : Point) (g : Scatter) (r : Line) → t ≡ sumsOf s → g ≡ scatterOf s (meanBy s t)
     → r ≡ axisOf (meanBy s t) g → r ≡ tlsOf s

@@ -17,16 +17,16 @@ use lib.Dec.{T, ltb}
 use lib.Ieee.{Float, nan, binary32, lt, le, fits, isNan}
 use lib.Ieee.Fits.{add-fits, div-fits}
 use borrow.Author.Tests.{lt-ltb, le-ltb}
+use Rattle.ieee.specs.Constants.{0f}
 use Rattle.laws.proofs.Bools.{and-left, and-right}
 use Rattle.laws.proofs.Steps.{on, done, from-zero}
-use Rattle.hull.specs.Points.{0f}
 use Rattle.ieee.specs.Root.{sqrt}
 use Rattle.ieee.proofs.RootOrder.{root-under}
 use Rattle.ieee.proofs.Tests.{lt-no-nan-r}
 use Rattle.fit.specs.F32.{_⊕_, _⊖_, _⊗_, _⊘_, 1·5, 3f, xOf, yOf}
 use Rattle.fit.specs.Select.{offOf}
-use Rattle.fit.specs.Consensus.{oneIf, agreeOn, agreeOf, better, trialAt, trialOf, trialsOn}
-use Rattle.fit.specs.Cut.{underCut, ShortUnder}
+use Rattle.fit.specs.Consensus.{oneIf, agreeOn, agreeOf, betterTrial, trialAt, trialOf, trialsOn}
+use Rattle.fit.specs.Inner.{underCut, ShortUnder}
 use Rattle.fit.specs.declared.consensus.Trial.{Trial}
 
 -- ---- counts
@@ -60,28 +60,28 @@ module _ (s : List Float) (len : Float) (best : Trial) (px py lx ly l : Float) w
   abbrev agreeing : ℕ
   agreeing = agreeOf s px py (lx ⊘ l) (ly ⊘ l)
 
-  short-by : (b : Bool) → lt l (len ⊘ 3f) ≡ b → cond b best (bestOf agreeing) ≡ better s len best px py lx ly l
-  unfolding better
+  short-by : (b : Bool) → lt l (len ⊘ 3f) ≡ b → cond b best (bestOf agreeing) ≡ betterTrial s len best px py lx ly l
+  unfolding betterTrial
   short-by b h = sym (ap (λ (b : Bool). cond b best (bestOf agreeing)) h)
 
-  pub short : lt l (len ⊘ 3f) ≡ true → best ≡ better s len best px py lx ly l
+  pub short : lt l (len ⊘ 3f) ≡ true → best ≡ betterTrial s len best px py lx ly l
   short h = short-by true h
 
   module _ (n : ℕ) (long : lt l (len ⊘ 3f) ≡ false) (e : n ≡ agreeing) where
-    better-by : (b : Bool) → ltb (best .count) n ≡ b → cond b (lineOf n) best ≡ better s len best px py lx ly l
+    better-by : (b : Bool) → ltb (best .count) n ≡ b → cond b (lineOf n) best ≡ betterTrial s len best px py lx ly l
     better-by b h = ap (λ (b : Bool). cond b (lineOf n) best) (sym h) ∙ ap bestOf e ∙ short-by false long
 
-    pub more : best .count < n → lineOf n ≡ better s len best px py lx ly l
+    pub more : best .count < n → lineOf n ≡ betterTrial s len best px py lx ly l
     more h = better-by true (lt-ltb (best .count) n h)
 
-    pub no-more : n ≤ best .count → best ≡ better s len best px py lx ly l
+    pub no-more : n ≤ best .count → best ≡ betterTrial s len best px py lx ly l
     no-more h = better-by false (le-ltb (best .count) n h)
 
 pub trial-by : (s : List Float) (len : Float) (best r : Trial) (i j : ℕ) (l : Float)
     → l ≡ sqrt binary32 ((xOf s j ⊖ xOf s i) ⊗ (xOf s j ⊖ xOf s i) ⊕ (yOf s j ⊖ yOf s i) ⊗ (yOf s j ⊖ yOf s i))
-    → r ≡ better s len best (xOf s i) (yOf s i) (xOf s j ⊖ xOf s i) (yOf s j ⊖ yOf s i) l → r ≡ trialAt s len best i j
+    → r ≡ betterTrial s len best (xOf s i) (yOf s i) (xOf s j ⊖ xOf s i) (yOf s j ⊖ yOf s i) l → r ≡ trialAt s len best i j
 unfolding trialAt
-trial-by s len best r i j l e q = q ∙ ap (better s len best (xOf s i) (yOf s i) (xOf s j ⊖ xOf s i) (yOf s j ⊖ yOf s i)) e
+trial-by s len best r i j l e q = q ∙ ap (betterTrial s len best (xOf s i) (yOf s i) (xOf s j ⊖ xOf s i) (yOf s j ⊖ yOf s i)) e
 
 pub trial-is : (s : List Float) (len : Float) (best r : Trial) (i j i′ j′ : ℕ) → i ≡ i′ → j ≡ j′ → r ≡ trialAt s len best i j
     → r ≡ trialAt s len best i′ j′

@@ -1,4 +1,4 @@
--- A quad from four edges, each the line that most points agree with, as document 01 has it under "Line, crossing, lens" and ring.rs in
+-- A quad from four edges, each the line that most points agree with, by rules 21 to 25 and ring.rs in
 -- `edge_quad`. Definitions only. Assumes nothing.
 use Prim.Native.Nat.{ℕ, zero, suc, _+_, _*_, _/_, _%_}
 use mathlib.Core.Bool.{Bool, cond, _&&_}
@@ -6,15 +6,15 @@ use mathlib.Core.List.{List}
 use lib.Dec.{eqb, ltb}
 use lib.Ieee.{Float, binary32, lt, le, neg}
 use Rattle.ieee.specs.Root.{sqrt}
-use Rattle.ieee.specs.Constants.{0·05, 0·15, 0·35, 1·05}
-use Rattle.hull.specs.Points.{0f, many}
+use Rattle.ieee.specs.Constants.{0f, 0·05, 0·15, 0·35, 1·05}
+use Rattle.hull.specs.Points.{many}
 use Rattle.hull.specs.declared.points.Point.{Point}
 use Rattle.hull.specs.declared.points.Quad.{Quad}
 use Rattle.hull.specs.declared.points.Corners.{Corners}
-use Rattle.fit.specs.F32.{_⊕_, _⊖_, _⊗_, _⊘_, whole, 0·25, 1·5, 3f, 16f, xOf, yOf}
-use Rattle.fit.specs.Select.{keptOf, passing, alongEdge, within, offOf}
+use Rattle.fit.specs.F32.{_⊕_, _⊖_, _⊗_, _⊘_, wholeFloat, 0·25, 1·5, 3f, 16f, xOf, yOf}
+use Rattle.fit.specs.Select.{pointsBy, passing, alongEdge, within, offOf}
 use Rattle.fit.specs.Line.{refitOf, crossOf}
-use Rattle.fit.specs.Corner.{edgeOf, d2Of, cornersOf}
+use Rattle.fit.specs.Corner.{edgeFrom, d2Of, cornersOf}
 use Rattle.fit.specs.declared.line.Edge.{Edge}
 use Rattle.fit.specs.declared.line.Line.{Line}
 use Rattle.fit.specs.declared.line.Line.the-variants.{Along, NoLine}
@@ -29,8 +29,8 @@ searchNear e x y =
     within (neg 0·05) 1·05 (alongEdge e x y) && le (offOf (e .ax) (e .ay) (e .ux) (e .uy) x y) (0·15 ⊗ e .len)
 
 -- The points that may belong to an edge.
-abbrev pub searchOf : Edge → List Float → List Float
-searchOf e s = keptOf (passing (searchNear e)) s
+abbrev pub searchRange : Edge → List Float → List Float
+searchRange e s = pointsBy (passing (searchNear e)) s
 
 -- ---- trials
 -- One more where a test holds.
@@ -49,8 +49,8 @@ agreeOf s px py fx fy = agreeOn s px py fx fy (many s) 0 0
 
 -- The best trial so far and one more line, through px, py along lx, ly, which are l long: it counts where l is not under a third of the
 -- edge, and it is better where more points agree.
-unfoldable pub better : List Float → Float → Trial → Float → Float → Float → Float → Float → Trial
-better s len best px py lx ly l =
+unfoldable pub betterTrial : List Float → Float → Trial → Float → Float → Float → Float → Float → Trial
+betterTrial s len best px py lx ly l =
     cond (lt l (len ⊘ 3f)) best
     (cond (ltb (best .count) (agreeOf s px py (lx ⊘ l) (ly ⊘ l)))
     record { count = agreeOf s px py (lx ⊘ l) (ly ⊘ l); x = px; y = py; u = lx ⊘ l; v = ly ⊘ l }
@@ -61,7 +61,7 @@ unfoldable pub trialAt : List Float → Float → Trial → ℕ → ℕ → Tria
 trialAt s len best i j =
     let lx = xOf s j ⊖ xOf s i in
     let ly = yOf s j ⊖ yOf s i in
-    better s len best (xOf s i) (yOf s i) lx ly (sqrt binary32 (lx ⊗ lx ⊕ ly ⊗ ly))
+    betterTrial s len best (xOf s i) (yOf s i) lx ly (sqrt binary32 (lx ⊗ lx ⊕ ly ⊗ ly))
 
 -- The two points of trial k among n: from two strides, so that every run has the same trials.
 abbrev pub firstAt : ℕ → ℕ → ℕ
@@ -89,14 +89,14 @@ unfoldable pub consensusOf : List Float → Edge → Line
 consensusOf s e =
     let best = trialsOf s (e .len) in
     cond (eqb (best .count) 0) NoLine
-    (cond (lt (whole (best .count)) (0·35 ⊗ e .len)) NoLine
+    (cond (lt (wholeFloat (best .count)) (0·35 ⊗ e .len)) NoLine
     (refitOf s e 3f 1·5 (Along (best .x) (best .y) (best .u) (best .v))))
 
 -- None under 16, or with fewer than 8 points that may belong to it.
 unfoldable pub edgeLine : List Float → Point → Point → Line
 edgeLine s a b =
-    let e = edgeOf a b in
-    cond (lt (e .len) 16f) NoLine (cond (ltb (many (searchOf e s)) 8) NoLine (consensusOf (searchOf e s) e))
+    let e = edgeFrom a b in
+    cond (lt (e .len) 16f) NoLine (cond (ltb (many (searchRange e s)) 8) NoLine (consensusOf (searchRange e s) e))
 
 -- ---- the quad
 -- A crossing whose squared distance from the corner is not above a limit: a NaN distance is not, so a NaN corner passes, which

@@ -1,16 +1,16 @@
--- A quad refined by lines along its edges, and when two quads agree, as document 01 has them under "Line, crossing, lens" and ring.rs in
+-- A quad refined by lines along its edges, and when two quads agree, by rules 21 to 25 and ring.rs in
 -- `refine_quad` and `same_quad`. Definitions only. Assumes nothing.
 use mathlib.Core.Bool.{Bool, cond, _&&_}
 use mathlib.Core.List.{List}
 use lib.Ieee.{Float, binary32, lt, le}
 use Rattle.ieee.specs.Root.{sqrt}
 use Rattle.ieee.specs.Ops.{abs, max}
-use Rattle.ieee.specs.Constants.{0·02}
+use Rattle.ieee.specs.Constants.{0·02, 2f}
 use Rattle.hull.specs.declared.points.Point.{Point}
 use Rattle.hull.specs.declared.points.Quad.{Quad}
 use Rattle.hull.specs.declared.points.Corners.{Corners}
 use Rattle.hull.specs.declared.points.Corners.the-variants.{Found, NoQuad}
-use Rattle.fit.specs.F32.{_⊕_, _⊖_, _⊗_, _⊘_, 1·5, 2f, 16f, 64f}
+use Rattle.fit.specs.F32.{_⊕_, _⊖_, _⊗_, _⊘_, 1·5, 16f, 64f}
 use Rattle.fit.specs.Line.{pointOf, refitOf, crossOf}
 use Rattle.fit.specs.declared.line.Edge.{Edge}
 use Rattle.fit.specs.declared.line.Line.{Line}
@@ -19,8 +19,8 @@ use Rattle.fit.specs.declared.line.Crossing.{Crossing}
 use Rattle.fit.specs.declared.line.Crossing.the-variants.{At, NoCrossing}
 
 -- The edge from one point to another.
-unfoldable pub edgeOf : Point → Point → Edge
-edgeOf a b =
+unfoldable pub edgeFrom : Point → Point → Edge
+edgeFrom a b =
     let dx = b .x ⊖ a .x in
     let dy = b .y ⊖ a .y in
     let len = sqrt binary32 (dx ⊗ dx ⊕ dy ⊗ dy) in
@@ -34,7 +34,7 @@ d2Of x y p = (x ⊖ p .x) ⊗ (x ⊖ p .x) ⊕ (y ⊖ p .y) ⊗ (y ⊖ p .y)
 -- within 1.5.
 unfoldable pub hullLine : List Float → Point → Point → Line
 hullLine s a b =
-    let e = edgeOf a b in
+    let e = edgeFrom a b in
     cond (lt (e .len) 16f) NoLine (refitOf s e (max (e .len ⊗ 0·02) 2f) 1·5 (Along (a .x) (a .y) (e .ux) (e .uy)))
 
 -- A crossing whose squared distance from the corner is at most 64; a NaN distance is not.

@@ -1,5 +1,5 @@
 -- Short names for f32 operations and numbers, so that a definition reads like the Rust's line, and the points of a lent list, x and y
--- alternating, as document 01 has them under "Forms the Rust has and Rattle lacks". Definitions only. Assumes nothing.
+-- alternating. Definitions only. Assumes nothing.
 use Prim.Native.Nat.{ℕ, _+_, _*_}
 use mathlib.Core.List.{List}
 use lib.ListN.{getD}
@@ -24,21 +24,15 @@ abbrev pub _⊘_ : Float → Float → Float
 x ⊘ y = div binary32 x y
 
 -- The f32 of a count.
-abbrev pub whole : ℕ → Float
-whole n = ofInt binary32 (pos n)
+abbrev pub wholeFloat : ℕ → Float
+wholeFloat n = ofInt binary32 (pos n)
 
 -- 0.25, 1, 1.5, 2, 3, 16 and 64, which f32 holds exactly, and the least positive f32 of full precision, 2 to the −126.
 abbrev pub 0·25 : Float
 0·25 = ofBits binary32 0x3e80_0000
 
-abbrev pub 1f : Float
-1f = ofBits binary32 0x3f80_0000
-
 abbrev pub 1·5 : Float
 1·5 = ofBits binary32 0x3fc0_0000
-
-abbrev pub 2f : Float
-2f = ofBits binary32 0x4000_0000
 
 abbrev pub 3f : Float
 3f = ofBits binary32 0x4040_0000

@@ -3,4 +3,4 @@ pub mod Select
 pub mod Line
 pub mod Corner
 pub mod Consensus
-pub mod Cut
+pub mod Inner

@@ -1,4 +1,4 @@
--- Lines fitted to points and the crossing of two, as document 01 has them under "Line, crossing, lens" and ring.rs in `tls_line`,
+-- Lines fitted to points and the crossing of two, by rules 21 to 25 and ring.rs in `tls_line`,
 -- `refit_middle` and `intersect`. A line fit is a point with a direction, or none. Definitions only. Assumes nothing.
 use Prim.Native.Nat.{ℕ, zero, suc, _+_, _-_}
 use mathlib.Core.Bool.{Bool, cond, _&&_}
@@ -7,11 +7,11 @@ use lib.Dec.{ltb}
 use lib.Ieee.{Float, nan, binary32, lt, le}
 use Rattle.ieee.specs.Root.{sqrt}
 use Rattle.ieee.specs.Ops.{abs}
-use Rattle.ieee.specs.Constants.{0·15, 0·85, 1e-3, 1e-6}
-use Rattle.hull.specs.Points.{0f, many}
+use Rattle.ieee.specs.Constants.{0f, 0·15, 0·85, 1e-3, 1e-6, 1f, 2f}
+use Rattle.hull.specs.Points.{many}
 use Rattle.hull.specs.declared.points.Point.{Point}
-use Rattle.fit.specs.F32.{_⊕_, _⊖_, _⊗_, _⊘_, whole, 1f, 2f, xOf, yOf}
-use Rattle.fit.specs.Select.{keptOf, passing, alongEdge, within, offOf}
+use Rattle.fit.specs.F32.{_⊕_, _⊖_, _⊗_, _⊘_, wholeFloat, xOf, yOf}
+use Rattle.fit.specs.Select.{pointsBy, passing, alongEdge, within, offOf}
 use Rattle.fit.specs.declared.line.Edge.{Edge}
 use Rattle.fit.specs.declared.line.Scatter.{Scatter}
 use Rattle.fit.specs.declared.line.Line.{Line}
@@ -47,8 +47,8 @@ abbrev pub scatterOf : List Float → Point → Scatter
 scatterOf s m = scatterOn s m (many s) 0 record { xx = 0f; yy = 0f; xy = 0f }
 
 -- The line through m along dx, dy at unit length; a direction shorter than 1e-6 counts as (1, 0).
-unfoldable pub alongOf : Point → Float → Float → Line
-alongOf m dx dy =
+unfoldable pub alongLine : Point → Float → Float → Line
+alongLine m dx dy =
     let len = sqrt binary32 (dx ⊗ dx ⊕ dy ⊗ dy) in
     cond (lt len 1e-6) (Along (m .x) (m .y) 1f 0f) (Along (m .x) (m .y) (dx ⊘ len) (dy ⊘ len))
 
@@ -61,16 +61,16 @@ lambdaOf t =
 unfoldable pub axisOf : Point → Scatter → Line
 axisOf m t =
     cond (le (abs (lambdaOf t ⊖ t .xx)) (abs (lambdaOf t ⊖ t .yy)))
-    (alongOf m (lambdaOf t ⊖ t .yy) (t .xy))
-    (alongOf m (t .xy) (lambdaOf t ⊖ t .xx))
+    (alongLine m (lambdaOf t ⊖ t .yy) (t .xy))
+    (alongLine m (t .xy) (lambdaOf t ⊖ t .xx))
 
 -- The points' mean.
-abbrev pub meanOf : List Float → Point
-meanOf s = pointOf (sumsOf s .x ⊘ whole (many s)) (sumsOf s .y ⊘ whole (many s))
+abbrev pub meanPoint : List Float → Point
+meanPoint s = pointOf (sumsOf s .x ⊘ wholeFloat (many s)) (sumsOf s .y ⊘ wholeFloat (many s))
 
 -- The line through the points' mean along their principal axis.
 unfoldable pub tlsOf : List Float → Line
-tlsOf s = axisOf (meanOf s) (scatterOf s (meanOf s))
+tlsOf s = axisOf (meanPoint s) (scatterOf s (meanPoint s))
 
 -- ---- the line along the middle of an edge
 -- A point from 0.15 to 0.85 along an edge and within tol of a line.
@@ -78,21 +78,21 @@ unfoldable pub nearLine : Edge → Float → Float → Float → Float → Float
 nearLine e ox oy fx fy tol x y = within 0·15 0·85 (alongEdge e x y) && le (offOf ox oy fx fy x y) tol
 
 -- The points that a pass of `refit_middle` keeps.
-abbrev pub middleOf : Edge → Float → Float → Float → Float → Float → List Float → List Float
-middleOf e ox oy fx fy tol s = keptOf (passing (nearLine e ox oy fx fy tol)) s
+abbrev pub middlePoints : Edge → Float → Float → Float → Float → Float → List Float → List Float
+middlePoints e ox oy fx fy tol s = pointsBy (passing (nearLine e ox oy fx fy tol)) s
 
 -- The line through a list of at least 8 points.
 abbrev pub fitOf : List Float → Line
 fitOf s = cond (ltb (many s) 8) NoLine (tlsOf s)
 
 -- One pass: the line through the points in the edge's middle within tol of a line.
-unfoldable pub passOf : List Float → Edge → Float → Line → Line
-passOf s e tol (Along x y u v) = fitOf (middleOf e x y u v tol s)
-passOf s e tol NoLine = NoLine
+unfoldable pub linePass : List Float → Edge → Float → Line → Line
+linePass s e tol (Along x y u v) = fitOf (middlePoints e x y u v tol s)
+linePass s e tol NoLine = NoLine
 
 -- Two passes, within one distance of a line and then within another of the line so found.
 abbrev pub refitOf : List Float → Edge → Float → Float → Line → Line
-refitOf s e wide tight line = passOf s e tight (passOf s e wide line)
+refitOf s e wide tight line = linePass s e tight (linePass s e wide line)
 
 -- ---- crossings
 -- Where two lines cross; none where the determinant's magnitude is below 1e-3, or a line is none.

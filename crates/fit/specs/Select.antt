@@ -1,5 +1,4 @@
--- Points that a test keeps, in order, and what a working list holds of them, as document 01 has working lists under "Doors and their
--- checks". Definitions only. Assumes nothing.
+-- Points that a test keeps, in order, and what a working list holds of them, for contracts of working lists. Definitions only. Assumes nothing.
 use Prim.Native.Nat.{ℕ, zero, suc, _+_, _*_, _≤_}
 use mathlib.Core.Bool.{Bool, cond, _&&_}
 use mathlib.Core.List.{List, [], _∷_, _++_}
@@ -26,8 +25,8 @@ keptOn r s (suc d) k =
     (keptOn r s d (k + 1))
 
 -- What is kept of a list of points.
-abbrev pub keptOf : Rule → List Float → List Float
-keptOf r s = keptOn r s (many s) 0
+abbrev pub pointsBy : Rule → List Float → List Float
+pointsBy r s = keptOn r s (many s) 0
 
 -- The rule that keeps the points that pass a test, as they are.
 abbrev pub passing : (Float → Float → Bool) → Rule
@@ -47,12 +46,12 @@ offOf ox oy fx fy x y = abs ((x ⊖ ox) ⊗ fy ⊖ (y ⊖ oy) ⊗ fx)
 
 -- ---- working lists
 -- A list and how many points it holds, from its beginning on.
-pub record Held : Type 0 where
+pub record HeldPoints : Type 0 where
   pub list : List Float
   pub held : ℕ
 
 -- The same with one more point, where it is kept.
-abbrev pub putOf : Bool → Float → Float → Held → Held
+abbrev pub putOf : Bool → Float → Float → HeldPoints → HeldPoints
 putOf keep x y h = cond keep record { list = set (set (h .list) (2 * h .held) x) (2 * h .held + 1) y; held = h .held + 1 } h
 
 -- After a selection from n numbers the kept points stand at the beginning, r of them, and the rest is as before.

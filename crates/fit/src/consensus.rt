@@ -8,9 +8,8 @@ ghost use Prim.Native.Nat.{_+_, _/_, _%_, _<_, _≤_};
 ghost use lib.ListN.{length};
 ghost use Rattle.fit.specs.Select.{KeptIn};
 ghost use Rattle.laws.specs.Lent.{UntouchedPast};
-ghost use Rattle.fit.specs.Consensus.{searchNear, searchOf, oneIf, agreeOf, trialAt};
-ghost use Rattle.fit.specs.Consensus.{trialsOf, consensusOf, edgeLine};
-ghost use Rattle.fit.specs.Cut.{underCut, ShortUnder};
+ghost use Rattle.fit.specs.Consensus.{searchNear, searchRange, oneIf, agreeOf, trialAt, trialsOf, consensusOf, edgeLine};
+ghost use Rattle.fit.specs.Inner.{underCut, ShortUnder};
 
 // The best trial line so far: how many points agree with it, where 0 is no line, a point of it in
 // pixels, and its unit direction.
@@ -36,7 +35,7 @@ fn search_near(e: Edge, x: f32, y: f32) -> bool
 fn search(s: &[f32], e: Edge, cand: &mut [f32]) -> usize
     requires { ⌜ length (now s) ≤ length (now cand) ⌝ }
     requires { ⌜ length (now s) ≤ 32768 ⌝ }
-    ensures { λ r. ⌜ KeptIn (length (now (s .entry))) (searchOf e (now (s .entry)))
+    ensures { λ r. ⌜ KeptIn (length (now (s .entry))) (searchRange e (now (s .entry)))
         (now (cand .entry)) (now (cand .exit)) r ⌝ }
 {
     let n = s.len() / 2;
@@ -187,8 +186,8 @@ fn consensus(s: &[f32], e: Edge, buf: &mut [f32]) -> Line
     requires { ⌜ 2 ≤ length (now s) ⌝ }
     requires { ⌜ length (now s) ≤ length (now buf) ⌝ }
     requires { ⌜ length (now s) ≤ 32768 ⌝ }
-    ensures { λ r. ⌜ r ≡ consensusOf (now (s .entry)) e ⌝ }
-    ensures { λ r. ⌜ UntouchedPast (length (now (s .entry)))
+    ensures answer { λ r. ⌜ r ≡ consensusOf (now (s .entry)) e ⌝ }
+    ensures buf_past { λ r. ⌜ UntouchedPast (length (now (s .entry)))
         (now (buf .entry)) (now (buf .exit)) ⌝ }
 {
     let best = trials(s, e.len);
@@ -208,10 +207,10 @@ pub(crate) fn edge_line(s: &[f32], a: Point, b: Point, cand: &mut [f32], buf: &m
     requires { ⌜ length (now s) ≤ length (now cand) ⌝ }
     requires { ⌜ length (now s) ≤ length (now buf) ⌝ }
     requires { ⌜ length (now s) ≤ 32768 ⌝ }
-    ensures { λ r. ⌜ r ≡ edgeLine (now (s .entry)) a b ⌝ }
-    ensures { λ r. ⌜ UntouchedPast (length (now (s .entry)))
+    ensures answer { λ r. ⌜ r ≡ edgeLine (now (s .entry)) a b ⌝ }
+    ensures cand_past { λ r. ⌜ UntouchedPast (length (now (s .entry)))
         (now (cand .entry)) (now (cand .exit)) ⌝ }
-    ensures { λ r. ⌜ UntouchedPast (length (now (s .entry)))
+    ensures buf_past { λ r. ⌜ UntouchedPast (length (now (s .entry)))
         (now (buf .entry)) (now (buf .exit)) ⌝ }
 {
     let e = crate::corners::edge_of(a, b);

@@ -10,12 +10,12 @@ ghost use mathlib.Core.Path.{_≡_};
 ghost use Prim.Native.Nat.{_≤_};
 ghost use lib.ListN.{length};
 ghost use Rattle.laws.specs.Lent.{UntouchedPast};
-ghost use Rattle.fit.specs.Corner.{edgeOf, d2Of, hullLine, nearCorner, cornersOf, orQuad};
+ghost use Rattle.fit.specs.Corner.{edgeFrom, d2Of, hullLine, nearCorner, cornersOf, orQuad};
 ghost use Rattle.fit.specs.Corner.{afterLine, refinedAt, refinedOf, sameCorner, sameOf};
 
 // The edge from a to b.
 pub fn edge_of(a: Point, b: Point) -> Edge
-    ensures { λ r. ⌜ r ≡ edgeOf a b ⌝ }
+    ensures { λ r. ⌜ r ≡ edgeFrom a b ⌝ }
 {
     let dx = b.x - a.x;
     let dy = b.y - a.y;
@@ -40,8 +40,8 @@ pub fn d2(x: f32, y: f32, p: Point) -> f32
 fn hull_line(s: &[f32], a: Point, b: Point, buf: &mut [f32]) -> Line
     requires { ⌜ length (now s) ≤ length (now buf) ⌝ }
     requires { ⌜ length (now s) ≤ 32768 ⌝ }
-    ensures { λ r. ⌜ r ≡ hullLine (now (s .entry)) a b ⌝ }
-    ensures { λ r. ⌜ UntouchedPast (length (now (s .entry)))
+    ensures answer { λ r. ⌜ r ≡ hullLine (now (s .entry)) a b ⌝ }
+    ensures buf_past { λ r. ⌜ UntouchedPast (length (now (s .entry)))
         (now (buf .entry)) (now (buf .exit)) ⌝ }
 {
     let e = edge_of(a, b);
@@ -56,8 +56,8 @@ fn hull_line(s: &[f32], a: Point, b: Point, buf: &mut [f32]) -> Line
 fn next_hull_line(s: &[f32], before: Line, a: Point, b: Point, buf: &mut [f32]) -> Line
     requires { ⌜ length (now s) ≤ length (now buf) ⌝ }
     requires { ⌜ length (now s) ≤ 32768 ⌝ }
-    ensures { λ r. ⌜ r ≡ afterLine before (hullLine (now (s .entry)) a b) ⌝ }
-    ensures { λ r. ⌜ UntouchedPast (length (now (s .entry)))
+    ensures answer { λ r. ⌜ r ≡ afterLine before (hullLine (now (s .entry)) a b) ⌝ }
+    ensures buf_past { λ r. ⌜ UntouchedPast (length (now (s .entry)))
         (now (buf .entry)) (now (buf .exit)) ⌝ }
 {
     let Line::Along(_, _, _, _) = before else {
@@ -128,8 +128,8 @@ fn refined_at(q: Quad, ab: Line, bc: Line, cd: Line, da: Line) -> Corners
 pub fn refine_quad(s: &[f32], q: Quad, buf: &mut [f32]) -> Quad
     requires { ⌜ length (now s) ≤ length (now buf) ⌝ }
     requires { ⌜ length (now s) ≤ 32768 ⌝ }
-    ensures { λ r. ⌜ r ≡ refinedOf (now (s .entry)) q ⌝ }
-    ensures { λ r. ⌜ UntouchedPast (length (now (s .entry)))
+    ensures answer { λ r. ⌜ r ≡ refinedOf (now (s .entry)) q ⌝ }
+    ensures buf_past { λ r. ⌜ UntouchedPast (length (now (s .entry)))
         (now (buf .entry)) (now (buf .exit)) ⌝ }
 {
     let ab = hull_line(s, q.a, q.b, buf);

@@ -25,10 +25,10 @@ fn next_edge_line(
     requires { ⌜ length (now s) ≤ length (now cand) ⌝ }
     requires { ⌜ length (now s) ≤ length (now buf) ⌝ }
     requires { ⌜ length (now s) ≤ 32768 ⌝ }
-    ensures { λ r. ⌜ r ≡ afterLine before (edgeLine (now (s .entry)) a b) ⌝ }
-    ensures { λ r. ⌜ UntouchedPast (length (now (s .entry)))
+    ensures answer { λ r. ⌜ r ≡ afterLine before (edgeLine (now (s .entry)) a b) ⌝ }
+    ensures cand_past { λ r. ⌜ UntouchedPast (length (now (s .entry)))
         (now (cand .entry)) (now (cand .exit)) ⌝ }
-    ensures { λ r. ⌜ UntouchedPast (length (now (s .entry)))
+    ensures buf_past { λ r. ⌜ UntouchedPast (length (now (s .entry)))
         (now (buf .entry)) (now (buf .exit)) ⌝ }
 {
     let Line::Along(_, _, _, _) = before else {
@@ -75,10 +75,10 @@ pub fn edge_quad(s: &[f32], q: Quad, cand: &mut [f32], buf: &mut [f32]) -> Corne
     requires { ⌜ length (now s) ≤ length (now cand) ⌝ }
     requires { ⌜ length (now s) ≤ length (now buf) ⌝ }
     requires { ⌜ length (now s) ≤ 32768 ⌝ }
-    ensures { λ r. ⌜ r ≡ edgeQuad (now (s .entry)) q ⌝ }
-    ensures { λ r. ⌜ UntouchedPast (length (now (s .entry)))
+    ensures answer { λ r. ⌜ r ≡ edgeQuad (now (s .entry)) q ⌝ }
+    ensures cand_past { λ r. ⌜ UntouchedPast (length (now (s .entry)))
         (now (cand .entry)) (now (cand .exit)) ⌝ }
-    ensures { λ r. ⌜ UntouchedPast (length (now (s .entry)))
+    ensures buf_past { λ r. ⌜ UntouchedPast (length (now (s .entry)))
         (now (buf .entry)) (now (buf .exit)) ⌝ }
 {
     let ab = crate::consensus::edge_line(s, q.a, q.b, cand, buf);

@@ -4,7 +4,7 @@ use hull::points::Point;
 ghost use mathlib.Core.Path.{_≡_};
 ghost use Prim.Native.Nat.{_≤_};
 ghost use lib.ListN.{length};
-ghost use Rattle.fit.specs.Line.{sumsOf, spreadOf, scatterOf, alongOf};
+ghost use Rattle.fit.specs.Line.{sumsOf, spreadOf, scatterOf, alongLine};
 ghost use Rattle.fit.specs.Line.{axisOf, tlsOf, crossOf};
 
 // An edge of a quad: where it starts, its unit direction, and its length in pixels.
@@ -104,7 +104,7 @@ fn axis(m: Point, t: Scatter) -> Line
 
 // The line through m along dx, dy.
 fn along(m: Point, dx: f32, dy: f32) -> Line
-    ensures { λ r. ⌜ r ≡ alongOf m dx dy ⌝ }
+    ensures { λ r. ⌜ r ≡ alongLine m dx dy ⌝ }
 {
     let len = ieee::root(dx * dx + dy * dy);
     if len < 1e-6 {

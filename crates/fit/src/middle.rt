@@ -9,14 +9,14 @@ ghost use lib.Ieee.{le};
 ghost use Rattle.ieee.specs.Ops.{abs};
 ghost use Rattle.fit.specs.Select.{putOf, alongEdge, within, offOf, KeptIn};
 ghost use Rattle.laws.specs.Lent.{UntouchedPast};
-ghost use Rattle.fit.specs.Line.{nearLine, middleOf, passOf, refitOf};
+ghost use Rattle.fit.specs.Line.{nearLine, middlePoints, linePass, refitOf};
 
 // Puts a kept point at place m of the points of a list.
 pub fn put(buf: &mut [f32], m: usize, keep: bool, x: f32, y: f32) -> usize
     requires { ⌜ 2 * m + 2 ≤ length (now buf) ⌝ }
-    ensures { λ r. ⌜ record { list = now (buf .exit); held = r }
+    ensures buf { λ r. ⌜ record { list = now (buf .exit); held = r }
         ≡ putOf keep x y (record { list = now (buf .entry); held = m }) ⌝ }
-    ensures { λ r. ⌜ r ≤ m + 1 ⌝ }
+    ensures most { λ r. ⌜ r ≤ m + 1 ⌝ }
 {
     if keep {
         buf[2 * m] = x;
@@ -78,7 +78,7 @@ fn select(
 ) -> usize
     requires { ⌜ length (now s) ≤ length (now buf) ⌝ }
     requires { ⌜ length (now s) ≤ 32768 ⌝ }
-    ensures { λ r. ⌜ KeptIn (length (now (s .entry))) (middleOf e ox oy fx fy tol (now (s .entry)))
+    ensures { λ r. ⌜ KeptIn (length (now (s .entry))) (middlePoints e ox oy fx fy tol (now (s .entry)))
         (now (buf .entry)) (now (buf .exit)) r ⌝ }
 {
     let n = s.len() / 2;
@@ -97,8 +97,8 @@ fn select(
 fn pass(s: &[f32], e: Edge, tol: f32, line: Line, buf: &mut [f32]) -> Line
     requires { ⌜ length (now s) ≤ length (now buf) ⌝ }
     requires { ⌜ length (now s) ≤ 32768 ⌝ }
-    ensures { λ r. ⌜ r ≡ passOf (now (s .entry)) e tol line ⌝ }
-    ensures { λ r. ⌜ UntouchedPast (length (now (s .entry)))
+    ensures answer { λ r. ⌜ r ≡ linePass (now (s .entry)) e tol line ⌝ }
+    ensures buf_past { λ r. ⌜ UntouchedPast (length (now (s .entry)))
         (now (buf .entry)) (now (buf .exit)) ⌝ }
 {
     let Line::Along(ox, oy, fx, fy) = line else {
@@ -116,8 +116,8 @@ fn pass(s: &[f32], e: Edge, tol: f32, line: Line, buf: &mut [f32]) -> Line
 pub fn refit_middle(s: &[f32], e: Edge, line: Line, wide: f32, tight: f32, buf: &mut [f32]) -> Line
     requires { ⌜ length (now s) ≤ length (now buf) ⌝ }
     requires { ⌜ length (now s) ≤ 32768 ⌝ }
-    ensures { λ r. ⌜ r ≡ refitOf (now (s .entry)) e wide tight line ⌝ }
-    ensures { λ r. ⌜ UntouchedPast (length (now (s .entry)))
+    ensures answer { λ r. ⌜ r ≡ refitOf (now (s .entry)) e wide tight line ⌝ }
+    ensures buf_past { λ r. ⌜ UntouchedPast (length (now (s .entry)))
         (now (buf .entry)) (now (buf .exit)) ⌝ }
 {
     let first = pass(s, e, wide, line, buf);

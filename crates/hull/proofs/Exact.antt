@@ -1,31 +1,32 @@
 -- For points of doubled coordinates up to 2,048 the f32 tests of the hull are those of whole numbers. Values: half-val, neg-is, less-is,
--- near, sum-size. Points by number: pt-at, small-at, x-at, y-at, vx, vy, dx, dy. Tests: cross-round, d2-is, bet-is, low-is, eq-is. The
+-- near, sum-size. Points by number: pt-at, small-at, x-at, y-at, vx, vy, dx, dy. Tests: cross-round, d2-is, better-is, low-is, eq-is. The
 -- hull: map-pt, length-pts, hull-exact. Assumes nothing.
 use mathlib.Core.Path.{_≡_, refl, sym, ap, ap₂, _∙_, subst}
 use mathlib.Core.Bool.{Bool, true, false, not, _&&_, _||_, cond}
-use mathlib.Core.List.{List, [], _∷_, map, List·Memᴰ, List·Memᴰ·head, List·Memᴰ·tail}
+use mathlib.Core.List.{List, [], _∷_, map, List·Memᴰ·head, List·Memᴰ·tail}
 use Prim.Native.Nat.{ℕ, zero, suc, _+_, _-_, _*_, _^_, _≤_, _<_}
 use native.Mathlib.Omega.{arith}
 use native.Mathlib.Nat.{le-trans}
-use lib.Dec.{T, ltb, eqb, lit≤}
+use lib.Dec.{ltb, eqb, lit≤}
 use lib.ListN.{length, getD}
-use lib.IntN.{ℤ, pos, negsuc, negℤ, natAbs, subℕ, _+ℤ_, _-ℤ_, _*ℤ_}
+use lib.IntN.{ℤ, pos, negsuc, natAbs, _+ℤ_, _-ℤ_, _*ℤ_}
 use lib.Signed.{ltZ}
-use lib.Ieee.{Float, nan, inf, fin, binary32, prec, low, up, down, round, ofBits, lt, eq, isNan}
+use lib.Ieee.{Float, nan, inf, fin, binary32, lt, eq, isNan}
 use lib.Ieee.Exact.{HasValue}
-use borrow.Author.Tests.{lt-ltb, ltb-true, ltb-false, le-ltb, eq-eqb, ne-eqb}
-use Rattle.ieee.specs.Val.{Val, Rounds, eqZ}
+use borrow.Author.Tests.{ltb-true, ltb-false, le-ltb, eq-eqb, ne-eqb}
+use Rattle.ieee.specs.Constants.{0f}
+use Rattle.ieee.specs.Inner.{Val, Rounds, eqZ}
 use Rattle.ieee.specs.Ops.{sign, before}
-use Rattle.ieee.specs.Cross.{cross, crossZ, d2, d2Z, span}
+use Rattle.ieee.specs.Cross.{d2Z, exactSpan}
 use Rattle.ieee.proofs.Vals.{exact, lt-val, eq-val, pos-sub, zero-val}
 use Rattle.ieee.proofs.Signs.{rounds-sign, cross-rounds, d2-val, ltZ-sub, small-product}
 use Rattle.whole.specs.Numbers.{_⊕_, _⊗_, neg}
 use Rattle.whole.specs.Points.{Pt, origin, ptAt}
 use Rattle.whole.specs.Points as PW
 use Rattle.whole.specs.Hull.{isNeg, isZero, better, samePt, lower, walk, hull}
-use Rattle.whole.specs.Wrap.{Tests, wlk, wrap, whole}
-use Rattle.whole.proofs.Wraps.{wrap-cong, wrap-is}
-use Rattle.hull.specs.Points.{0f, xAt, yAt, halfOf, numbersOf, floatsOf, ptOf, ptsOf, Small}
+use Rattle.whole.specs.Walk.{walkWith, hullWith, wholeTests}
+use Rattle.whole.proofs.Wraps.{hullWith-cong, hullWith-is}
+use Rattle.hull.specs.Points.{xAt, yAt, halfOf, numbersOf, floatsOf, ptOf, ptsOf, Small}
 use Rattle.hull.specs.Hull.{crossAt, d2At, betterAt, lowerAt, sameAt, hullTests, hullOf, hullPoints}
 
 -- ---- values
@@ -146,7 +147,7 @@ module _ (L : List (ℕ × ℕ)) (small : Small L) where
   pub dy : (i j : ℕ) → natAbs (pos (Y i) -ℤ pos (Y j)) ≤ 2048
   dy i j = near 2048 (Y i) (Y j) (small-at L small i .1) (small-at L small j .1)
 
-  up′ : (n : ℕ) → n ≤ 2048 → n ≤ span binary32
+  up′ : (n : ℕ) → n ≤ 2048 → n ≤ exactSpan binary32
   up′ n l = omega arith
 
   pub cross-round : (o a b : ℕ) → Rounds binary32 (crossAt F o a b) 2 (PW.cross (ptOf (at L o)) (ptOf (at L a)) (ptOf (at L b)))
@@ -168,9 +169,9 @@ module _ (L : List (ℕ × ℕ)) (small : Small L) where
   d2-is a b = d2-val binary32 (vx a) (vy a) (vx b) (vy b) (up′ _ (dx a b)) (up′ _ (dy a b)) (le-trans (d2-size a b) (lit≤ tt))
 
   -- ---- the tests
-  pub bet-is : (c n i : ℕ) → c < length L → n < length L → i < length L → hullTests F .bet c n i ≡ whole (ptsOf L) .bet c n i
-  unfolding betterAt whole better
-  bet-is c n i lc ln li =
+  pub better-is : (c n i : ℕ) → c < length L → n < length L → i < length L → hullTests F .better c n i ≡ wholeTests (ptsOf L) .better c n i
+  unfolding betterAt wholeTests better
+  better-is c n i lc ln li =
       let r = rounds-sign binary32 (lit≤ tt) (cross-round c n i) in
       let C : ℤ = PW.cross (ptOf (at L c)) (ptOf (at L n)) (ptOf (at L i)) in
       let e₁ : lt (crossAt F c n i) 0f ≡ isNeg C = r .0 ∙ neg-is C in
@@ -228,8 +229,8 @@ module _ (L : List (ℕ × ℕ)) (small : Small L) where
       go false true e f = ap (λ (z : Bool). z && t) (sym (ne-eqb a b (λ z. omega (arith, ltb-true b a f))))
       go false false e f = ap (λ (z : Bool). z && t) (sym (eq-eqb a b (omega (arith, ltb-false b a f, ltb-false a b e))))
 
-  pub low-is : (i n : ℕ) → i < length L → n < length L → hullTests F .low i n ≡ whole (ptsOf L) .low i n
-  unfolding lowerAt whole lower ptOf
+  pub low-is : (i n : ℕ) → i < length L → n < length L → hullTests F .low i n ≡ wholeTests (ptsOf L) .low i n
+  unfolding lowerAt wholeTests lower ptOf
   low-is i n li ln =
       let si = small-at L small i in
       let sn = small-at L small n in
@@ -248,8 +249,8 @@ module _ (L : List (ℕ × ℕ)) (small : Small L) where
         less-nat (Y i) (Y n),
       ) (order-eq (X i) (X n) (ltb (Y i) (Y n)))
 
-  pub eq-is : (i j : ℕ) → i < length L → j < length L → hullTests F .eq i j ≡ whole (ptsOf L) .eq i j
-  unfolding sameAt whole samePt ptOf
+  pub eq-is : (i j : ℕ) → i < length L → j < length L → hullTests F .eq i j ≡ wholeTests (ptsOf L) .eq i j
+  unfolding sameAt wholeTests samePt ptOf
   eq-is i j li lj =
       rw (eq-val (vx i) (vx j), eq-val (vy i) (vy j), pt-at L i, pt-at L j, zero-nat (X i) (X j), zero-nat (Y i) (Y j))
 
@@ -264,11 +265,11 @@ length-pts (q ∷ L) = ap suc (length-pts L)
 -- The hull of f32 points is that of whole points.
 pub hull-exact : (L : List (ℕ × ℕ)) → Small L → ptsOf (hullPoints L) ≡ hull (ptsOf L)
 unfolding hullPoints hullOf
-hull-exact [] s = unfold wrap wlk hull walk in refl
+hull-exact [] s = unfold hullWith walkWith hull walk in refl
 hull-exact (q ∷ L) s =
     let K = q ∷ L in
-    map-pt K (wrap (hullTests (floatsOf K)) (length K))
+    map-pt K (hullWith (hullTests (floatsOf K)) (length K))
     ∙ ap (map (ptAt (ptsOf K)))
-    (wrap-cong (hullTests (floatsOf K)) (whole (ptsOf K)) (length K) (omega arith) (bet-is K s) (low-is K s) (eq-is K s))
-    ∙ ap (λ (n : ℕ). map (ptAt (ptsOf K)) (wrap (whole (ptsOf K)) n)) (sym (length-pts K))
-    ∙ wrap-is (ptsOf K)
+    (hullWith-cong (hullTests (floatsOf K)) (wholeTests (ptsOf K)) (length K) (omega arith) (better-is K s) (low-is K s) (eq-is K s))
+    ∙ ap (λ (n : ℕ). map (ptAt (ptsOf K)) (hullWith (wholeTests (ptsOf K)) n)) (sym (length-pts K))
+    ∙ hullWith-is (ptsOf K)

@@ -3,3 +3,4 @@ pub mod QuadExact
 pub mod Controls
 pub mod Walks
 pub mod Pairs
+pub mod Floats

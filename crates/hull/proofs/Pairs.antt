@@ -1,26 +1,26 @@
 -- The folds of the quad, a step at a time. keep-append, keep-begin, keep-turn, keep-end; kept-yes, kept-no; pair-begin .. pairs-end;
--- quad-few, quad-over, quad-under, quad-on, quad-back. Assumes nothing.
-use mathlib.Core.Path.{_≡_, refl, sym, ap, _∙_, subst}
-use mathlib.Core.Bool.{Bool, true, false, cond, not, _&&_}
+-- quad-few, quad-over, quad-under, quad-on, quad-back.
+--     keep-append, keep-begin, keep-turn, keep-end
+--     one candidate: kept-yes, kept-no, keeps-under, keeps-over
+--     pairs: a row of pairs, then the rows after it: row, pair-turn, pair-end, pairs-begin, pairs-turn, pairs-end, pair-yes, pair-no,
+--     minus-one
+--     the whole rule: quad-few, quad-over, quad-under, quad-on, quad-back
+-- Assumes nothing.
+use mathlib.Core.Path.{_≡_, refl, sym, ap, _∙_}
+use mathlib.Core.Bool.{Bool, true, false, not, _&&_}
 use mathlib.Core.List.{List, [], _∷_, _++_, map}
-use Prim.Native.Nat.{ℕ, zero, suc, _+_, _-_, _*_, _≤_, _<_}
-use native.Mathlib.Nat.{not-suc-le-zero, le-of-suc-le-suc}
+use Prim.Native.Nat.{ℕ, suc, _+_, _-_, _≤_, _<_}
 use native.Mathlib.Omega.{arith}
-use lib.ListN.{length, getD}
 use lib.Ieee.{Float, lt, le, neg, ofBits, binary32}
 use borrow.Author.Tests.{lt-ltb, le-ltb}
+use Rattle.ieee.specs.Constants.{0f}
+use Rattle.laws.proofs.Steps.{one-less, none-left}
 use Rattle.whole.specs.Hull.{range}
-use Rattle.whole.specs.Wrap.{keep, ipairs, with-i, fars, ends, iquad}
-use Rattle.hull.specs.Points.{many, 0f}
+use Rattle.whole.specs.Walk.{keep, indexPairs, with-i, farthestWith, ends, quadWith}
+use Rattle.hull.specs.Points.{many}
 use Rattle.hull.specs.Hull.{crossAt, d2At}
 use Rattle.hull.specs.Quad.{areaAt, quadOps, quadOf, minusOne}
-use Rattle.hull.specs.Steps.{keeps, kept1, apart, kept2}
-
-left : (n i : ℕ) → i < n → n - i ≡ suc (n - (i + 1))
-left n i h = omega arith
-
-done : (n i : ℕ) → n ≤ i → n - i ≡ 0
-done n i h = omega arith
+use Rattle.hull.specs.Inner.{keeps, kept1, apart, kept2}
 
 up : (i : ℕ) → suc i ≡ i + 1
 up i = omega arith
@@ -63,11 +63,11 @@ module _ (t : Float → Float → Bool) (g : ℕ → Float) where
       ap (λ (q : ℕ × Float). keep t g (q .0) (q .1) (range (i + 1) (n - (i + 1)))) e
       ∙ ap (λ (k : ℕ). keep t g (kept1 t g x u i .0) (kept1 t g x u i .1) (range k (n - (i + 1)))) (sym (up i))
       ∙ sym (keep-one x u i (range (suc i) (n - (i + 1))))
-      ∙ ap (λ (k : ℕ). keep t g x u (range i k)) (sym (left n i h))
+      ∙ ap (λ (k : ℕ). keep t g x u (range i k)) (sym (one-less n i h))
 
   pub keep-end : (n i x : ℕ) (u : Float) → n ≤ i → (x, u) ≡ keep t g x u (range i (n - i))
   unfolding keep
-  keep-end n i x u h = ap (λ (k : ℕ). keep t g x u (range i k)) (sym (done n i h))
+  keep-end n i x u h = ap (λ (k : ℕ). keep t g x u (range i k)) (sym (none-left n i h))
 
 -- ---- one candidate
 pub kept-yes : (t : Float → Float → Bool) (g : ℕ → Float) (x i : ℕ) (u s : Float) → s ≡ g i → t u s ≡ true → (i, s) ≡ kept1 t g x u i
@@ -113,26 +113,26 @@ module _ (p : List Float) where
       ap (λ (q : (ℕ × ℕ) × Float). keep lt (apart p) (q .0) (q .1) (row n i (j + 1))) e
       ∙ sym (keep-pair a b i j far (row n i (j + 1)))
       ∙ ap (λ (k : ℕ). keep lt (apart p) (a, b) far ((i, j) ∷ map (with-i i) (range k (n - (j + 1))))) (sym (up j))
-      ∙ ap (λ (k : ℕ). keep lt (apart p) (a, b) far (map (with-i i) (range j k))) (sym (left n j h))
+      ∙ ap (λ (k : ℕ). keep lt (apart p) (a, b) far (map (with-i i) (range j k))) (sym (one-less n j h))
 
   pub pair-end : (n i j a b : ℕ) (far : Float) → n ≤ j → ((a, b), far) ≡ keep lt (apart p) (a, b) far (row n i j)
   unfolding keep
-  pair-end n i j a b far h = ap (λ (k : ℕ). keep lt (apart p) (a, b) far (map (with-i i) (range j k))) (sym (done n j h))
+  pair-end n i j a b far h = ap (λ (k : ℕ). keep lt (apart p) (a, b) far (map (with-i i) (range j k))) (sym (none-left n j h))
 
-  pub pairs-begin : (n a b : ℕ) (far : Float) → keep lt (apart p) (a, b) far (ipairs 0 (n - 0)) ≡ keep lt (apart p) (a, b) far (ipairs 0 n)
-  pairs-begin n a b far = ap (λ (k : ℕ). keep lt (apart p) (a, b) far (ipairs 0 k)) (all n)
+  pub pairs-begin : (n a b : ℕ) (far : Float) → keep lt (apart p) (a, b) far (indexPairs 0 (n - 0)) ≡ keep lt (apart p) (a, b) far (indexPairs 0 n)
+  pairs-begin n a b far = ap (λ (k : ℕ). keep lt (apart p) (a, b) far (indexPairs 0 k)) (all n)
 
   pub pairs-turn : (n i a b a′ b′ : ℕ) (far far′ : Float) → i < n → ((a′, b′), far′) ≡ keep lt (apart p) (a, b) far (row n i (i + 1))
-      → keep lt (apart p) (a′, b′) far′ (ipairs (i + 1) (n - (i + 1))) ≡ keep lt (apart p) (a, b) far (ipairs i (n - i))
+      → keep lt (apart p) (a′, b′) far′ (indexPairs (i + 1) (n - (i + 1))) ≡ keep lt (apart p) (a, b) far (indexPairs i (n - i))
   pairs-turn n i a b a′ b′ far far′ h e =
-      ap (λ (q : (ℕ × ℕ) × Float). keep lt (apart p) (q .0) (q .1) (ipairs (i + 1) (n - (i + 1)))) e
-      ∙ sym (keep-append lt (apart p) (a, b) far (row n i (i + 1)) (ipairs (i + 1) (n - (i + 1))))
-      ∙ ap (λ (k : ℕ). keep lt (apart p) (a, b) far (map (with-i i) (range k (n - (i + 1))) ++ ipairs k (n - (i + 1)))) (sym (up i))
-      ∙ ap (λ (k : ℕ). keep lt (apart p) (a, b) far (ipairs i k)) (sym (left n i h))
+      ap (λ (q : (ℕ × ℕ) × Float). keep lt (apart p) (q .0) (q .1) (indexPairs (i + 1) (n - (i + 1)))) e
+      ∙ sym (keep-append lt (apart p) (a, b) far (row n i (i + 1)) (indexPairs (i + 1) (n - (i + 1))))
+      ∙ ap (λ (k : ℕ). keep lt (apart p) (a, b) far (map (with-i i) (range k (n - (i + 1))) ++ indexPairs k (n - (i + 1)))) (sym (up i))
+      ∙ ap (λ (k : ℕ). keep lt (apart p) (a, b) far (indexPairs i k)) (sym (one-less n i h))
 
-  pub pairs-end : (n i a b : ℕ) (far : Float) → n ≤ i → ((a, b), far) ≡ keep lt (apart p) (a, b) far (ipairs i (n - i))
+  pub pairs-end : (n i a b : ℕ) (far : Float) → n ≤ i → ((a, b), far) ≡ keep lt (apart p) (a, b) far (indexPairs i (n - i))
   unfolding keep
-  pairs-end n i a b far h = ap (λ (k : ℕ). keep lt (apart p) (a, b) far (ipairs i k)) (sym (done n i h))
+  pairs-end n i a b far h = ap (λ (k : ℕ). keep lt (apart p) (a, b) far (indexPairs i k)) (sym (none-left n i h))
 
   pub pair-yes : (a b i j : ℕ) (far d : Float) → d ≡ d2At p i j → lt far d ≡ true → ((i, j), d) ≡ kept2 p a b far i j
   unfolding kept2
@@ -154,10 +154,10 @@ minus-one = refl
 
 -- ---- the whole rule
 pub quad-few : (p : List Float) → many p < 4 → quadOf p (many p) ≡ []
-unfolding quadOf iquad
+unfolding quadOf quadWith
 quad-few p h =
     ap (λ (b : Bool). elim b as (λ _. List ℕ)
-    [ true ↦ [] | false ↦ ends (quadOps p) (many p) (fars (quadOps p) (many p) .0) (fars (quadOps p) (many p) .1) ])
+    [ true ↦ [] | false ↦ ends (quadOps p) (many p) (farthestWith (quadOps p) (many p) .0) (farthestWith (quadOps p) (many p) .1) ])
     (lt-ltb (many p) 4 h)
 
 -- the answer from its three tests
@@ -165,15 +165,15 @@ shape : Bool → Bool → Bool → ℕ → ℕ → ℕ → ℕ → List ℕ
 shape x y z a c b d = elim (x && y) [ false ↦ [] | true ↦ elim z [ false ↦ a ∷ c ∷ b ∷ d ∷ [] | true ↦ a ∷ d ∷ b ∷ c ∷ [] ] ]
 
 module _ (p : List Float) (some : 4 ≤ many p) (a b : ℕ) (far : Float)
-    (e : ((a, b), far) ≡ keep lt (apart p) (0, 0) minusOne (ipairs 0 (many p)))
+    (e : ((a, b), far) ≡ keep lt (apart p) (0, 0) minusOne (indexPairs 0 (many p)))
     (c : ℕ) (u : Float) (ec : (c, u) ≡ keep (keeps false) (crossAt p a b) a 0f (range 0 (many p)))
     (d : ℕ) (w : Float) (ed : (d, w) ≡ keep (keeps true) (crossAt p a b) a 0f (range 0 (many p))) where
   -- which way round
   abbrev backs : Bool
   backs = not (le 0f (areaAt p a c b d))
 
-  pair-is : (a, b) ≡ fars (quadOps p) (many p)
-  unfolding fars
+  pair-is : (a, b) ≡ farthestWith (quadOps p) (many p)
+  unfolding farthestWith
   pair-is = ap (λ (q : (ℕ × ℕ) × Float). q .0) e
 
   ends-are : ends (quadOps p) (many p) a b ≡ shape (lt 0f u) (lt w 0f) backs a c b d
@@ -187,10 +187,10 @@ module _ (p : List Float) (some : 4 ≤ many p) (a b : ℕ) (far : Float)
       under = keep (keeps true) (crossAt p a b) a 0f (range 0 (many p))
 
   quad-is : (x y z : Bool) → lt 0f u ≡ x → lt w 0f ≡ y → backs ≡ z → quadOf p (many p) ≡ shape x y z a c b d
-  unfolding quadOf iquad
+  unfolding quadOf quadWith
   quad-is x y z hx hy hz =
       ap (λ (t : Bool). elim t as (λ _. List ℕ)
-      [ true ↦ [] | false ↦ ends (quadOps p) (many p) (fars (quadOps p) (many p) .0) (fars (quadOps p) (many p) .1) ])
+      [ true ↦ [] | false ↦ ends (quadOps p) (many p) (farthestWith (quadOps p) (many p) .0) (farthestWith (quadOps p) (many p) .1) ])
       (le-ltb (many p) 4 some)
       ∙ ap (λ (q : ℕ × ℕ). ends (quadOps p) (many p) (q .0) (q .1)) (sym pair-is)
       ∙ ends-are

@@ -1,18 +1,21 @@
--- For points of doubled coordinates up to 2,048 the quad of f32 points is that of whole points. Assumes nothing.
-use mathlib.Core.Path.{_≡_, refl, sym, ap, ap₂, _∙_, subst}
+-- For points of doubled coordinates up to 2,048 the quad of f32 points is that of whole points.
+--     quad-exact
+-- Assumes nothing.
+use mathlib.Core.Path.{_≡_, refl, sym, ap, ap₂, _∙_}
 use mathlib.Core.Logic.{_⊎_, inl, inr}
 use mathlib.Core.Bool.{Bool, true, false, not, _||_}
-use mathlib.Core.List.{List, [], _∷_, map}
-use Prim.Native.Nat.{ℕ, zero, suc, _+_, _-_, _*_, _^_, _≤_, _<_}
+use mathlib.Core.List.{List, map}
+use Prim.Native.Nat.{ℕ, zero, suc, _*_, _≤_}
 use native.Mathlib.Omega.{arith}
 use native.Mathlib.Nat.{le-trans, mul-le-mul}
-use lib.Dec.{ltb, lit≤}
-use lib.ListN.{length, getD}
+use lib.Dec.{lit≤}
+use lib.ListN.{length}
 use lib.IntN.{ℤ, pos, negsuc, negℤ, natAbs, _+ℤ_, _-ℤ_, _*ℤ_}
 use lib.Signed.{ltZ}
-use lib.Ieee.{Float, binary32, prec, low, round, ofBits, add, sub, mul, lt, le, eq}
+use lib.Ieee.{Float, binary32, ofBits, mul, lt, le}
 use borrow.Author.Tests.{lt-ltb}
-use Rattle.ieee.specs.Val.{Val, Rounds, eqZ}
+use Rattle.ieee.specs.Constants.{0f}
+use Rattle.ieee.specs.Inner.{Val, eqZ}
 use Rattle.ieee.specs.Cross.{crossZ}
 use Rattle.ieee.proofs.Vals.{lt-val, eq-val, zero-val, rounds-val, add-val, sub-val, mul-val}
 use Rattle.ieee.proofs.Signs.{small-product}
@@ -21,11 +24,10 @@ use Rattle.whole.specs.Points.{Pt, ptAt}
 use Rattle.whole.specs.Points as PW
 use Rattle.whole.specs.Hull.{isNeg}
 use Rattle.whole.specs.Quad.{lace, area, quad}
-use Rattle.whole.specs.Wrap.{Ops, iquad, wholeOps}
+use Rattle.whole.specs.Walk.{quadWith, wholeOps}
 use Rattle.whole.proofs.Turns.{d2N}
-use Rattle.whole.proofs.Indexed.{iquad-cong, quad-is}
-use Rattle.hull.specs.Points.{0f, xAt, yAt, numbersOf, floatsOf, ptOf, ptsOf, Small}
-use Rattle.hull.specs.Hull.{crossAt, d2At}
+use Rattle.whole.proofs.Indexed.{quadWith-cong, quad-is}
+use Rattle.hull.specs.Points.{xAt, yAt, floatsOf, ptOf, ptsOf, Small}
 use Rattle.hull.specs.Quad.{laceAt, areaAt, quadOps, quadOf, quadPoints, minusOne}
 use Rattle.hull.proofs.Exact.{at, pt-at, small-at, vx, vy, dx, dy, near, sum-size, less-is, cross-round, d2-is, map-pt, length-pts}
 
@@ -161,8 +163,8 @@ module _ (L : List (ℕ × ℕ)) (small : Small L) where
         lace-size d a,
       )
 
-  iquad-is : (n : ℕ) → iquad (quadOps F) n ≡ iquad (wholeOps P) n
-  iquad-is = iquad-cong Rd R (quadOps F) (wholeOps P)
+  quadWith-is : (n : ℕ) → quadWith (quadOps F) n ≡ quadWith (wholeOps P) n
+  quadWith-is = quadWith-cong Rd R (quadOps F) (wholeOps P)
       (unfold wholeOps in aliked) (unfold wholeOps in alike)
       (unfold wholeOps 𝟙 neg in inr (refl, refl)) (unfold wholeOps 𝟘 in zero-val binary32 2)
       dist-is side-is area-is (unfold wholeOps in backs)
@@ -171,7 +173,7 @@ module _ (L : List (ℕ × ℕ)) (small : Small L) where
   pub quad-exact : ptsOf (quadPoints L) ≡ quad (ptsOf L)
   unfolding quadPoints quadOf
   quad-exact =
-      map-pt L (iquad (quadOps F) (length L))
-      ∙ ap (map (ptAt P)) (iquad-is (length L))
-      ∙ ap (λ (n : ℕ). map (ptAt P) (iquad (wholeOps P) n)) (sym (length-pts L))
+      map-pt L (quadWith (quadOps F) (length L))
+      ∙ ap (map (ptAt P)) (quadWith-is (length L))
+      ∙ ap (λ (n : ℕ). map (ptAt P) (quadWith (wholeOps P) n)) (sym (length-pts L))
       ∙ quad-is P

@@ -1,26 +1,24 @@
--- The folds of the hull, a step at a time, and the stores of the walk. sel-begin, sel-turn, sel-end; lst-begin, lst-turn, lst-end; the
--- invariant Walked with walked-begin, walked-turn, walked-stop, walked-end; hull-none. Assumes nothing.
+-- The folds of the hull, a step at a time, and the stores of the walk. bestWith-begin, bestWith-turn, bestWith-end; lowestWith-begin,
+-- lowestWith-turn, lowestWith-end; the invariant Walked with walked-begin, walked-turn, walked-stop, walked-end; hull-none.
+--     bestWith-begin, bestWith-turn, bestWith-end, lowestWith-begin, lowestWith-turn, lowestWith-end
+--     the stores: Walked, walked-begin, walked-turn, walked-stop, walked-end, hull-none
+-- Assumes nothing.
 use mathlib.Core.Path.{_≡_, refl, sym, ap, _∙_, subst}
 use mathlib.Core.Bool.{Bool, true, false, cond}
 use mathlib.Core.List.{List, [], _∷_, _++_, append-assoc, append-nil}
-use Prim.Native.Nat.{ℕ, zero, suc, _+_, _-_, _*_, _/_, _%_, _≤_, _<_}
+use Prim.Native.Nat.{ℕ, zero, suc, _+_, _-_, _*_, _%_, _≤_, _<_}
 use native.Mathlib.Omega.{arith}
 use lib.ListN.{length, set, length-append}
 use lib.Seq.{sets}
 use lib.Ieee.{Float}
+use Rattle.laws.proofs.Steps.{one-less, none-left}
 use Rattle.laws.proofs.Stores.{sets-append, laid-is}
-use Rattle.whole.specs.Wrap.{Tests, sel, lst, nxt, wlk, wrap}
+use Rattle.whole.specs.Walk.{Tests, bestWith, lowestWith, nextWith, walkWith, hullWith}
 use Rattle.whole.specs.Hull.{range}
 use Rattle.laws.specs.Lent.{laid}
 use Rattle.hull.specs.Points.{xAt, yAt, many, pointsAt}
 use Rattle.hull.specs.Hull.{hullTests, hullOf}
-use Rattle.hull.specs.Steps.{startOf}
-
-left : (n i : ℕ) → i < n → n - i ≡ suc (n - (i + 1))
-left n i h = omega arith
-
-done : (n i : ℕ) → n ≤ i → n - i ≡ 0
-done n i h = omega arith
+use Rattle.hull.specs.Inner.{startOf}
 
 up : (i : ℕ) → suc i ≡ i + 1
 up i = omega arith
@@ -33,58 +31,69 @@ pick true i n = refl
 pick false i n = refl
 
 module _ (t : Tests) (n : ℕ) where
-  pub sel-begin : (c : ℕ) → sel t c ((c + 1) % n) (range 0 (n - 0)) ≡ nxt t n c
-  unfolding nxt
-  sel-begin c = ap (λ (k : ℕ). sel t c ((c + 1) % n) (range 0 k)) (all n)
+  pub bestWith-begin : (c : ℕ) → bestWith t c ((c + 1) % n) (range 0 (n - 0)) ≡ nextWith t n c
+  unfolding nextWith
+  bestWith-begin c = ap (λ (k : ℕ). bestWith t c ((c + 1) % n) (range 0 k)) (all n)
 
-  pub sel-turn : (c i next r : ℕ) → i < n → r ≡ cond (t .bet c next i) i next
-      → sel t c r (range (i + 1) (n - (i + 1))) ≡ sel t c next (range i (n - i))
-  unfolding sel
-  sel-turn c i next r h e =
-      ap (λ (k : ℕ). sel t c k (range (i + 1) (n - (i + 1)))) (e ∙ sym (pick (t .bet c next i) i next))
-      ∙ ap (λ (k : ℕ). sel t c (elim (t .bet c next i) as (λ _. ℕ) [ true ↦ i | false ↦ next ]) (range k (n - (i + 1)))) (sym (up i))
-      ∙ ap (λ (k : ℕ). sel t c next (range i k)) (sym (left n i h))
+  pub bestWith-turn : (c i next r : ℕ) → i < n → r ≡ cond (t .better c next i) i next
+      → bestWith t c r (range (i + 1) (n - (i + 1))) ≡ bestWith t c next (range i (n - i))
+  unfolding bestWith
+  bestWith-turn c i next r h e =
+      ap (λ (k : ℕ). bestWith t c k (range (i + 1) (n - (i + 1)))) (e ∙ sym (pick (t .better c next i) i next))
+      ∙ ap (λ (k : ℕ). bestWith t c (elim (t .better c next i) as (λ _. ℕ) [ true ↦ i | false ↦ next ]) (range k (n - (i + 1)))) (sym (up i))
+      ∙ ap (λ (k : ℕ). bestWith t c next (range i k)) (sym (one-less n i h))
 
-  pub sel-end : (c i next : ℕ) → n ≤ i → next ≡ sel t c next (range i (n - i))
-  unfolding sel
-  sel-end c i next h = ap (λ (k : ℕ). sel t c next (range i k)) (sym (done n i h))
+  pub bestWith-end : (c i next : ℕ) → n ≤ i → next ≡ bestWith t c next (range i (n - i))
+  unfolding bestWith
+  bestWith-end c i next h = ap (λ (k : ℕ). bestWith t c next (range i k)) (sym (none-left n i h))
 
-  pub lst-begin : lst t 0 (range 0 (n - 0)) ≡ lst t 0 (range 0 n)
-  lst-begin = ap (λ (k : ℕ). lst t 0 (range 0 k)) (all n)
+  pub lowestWith-begin : lowestWith t 0 (range 0 (n - 0)) ≡ lowestWith t 0 (range 0 n)
+  lowestWith-begin = ap (λ (k : ℕ). lowestWith t 0 (range 0 k)) (all n)
 
-  pub lst-turn : (i best r : ℕ) → i < n → r ≡ cond (t .low i best) i best
-      → lst t r (range (i + 1) (n - (i + 1))) ≡ lst t best (range i (n - i))
-  unfolding lst
-  lst-turn i best r h e =
-      ap (λ (k : ℕ). lst t k (range (i + 1) (n - (i + 1)))) (e ∙ sym (pick (t .low i best) i best))
-      ∙ ap (λ (k : ℕ). lst t (elim (t .low i best) as (λ _. ℕ) [ true ↦ i | false ↦ best ]) (range k (n - (i + 1)))) (sym (up i))
-      ∙ ap (λ (k : ℕ). lst t best (range i k)) (sym (left n i h))
+  pub lowestWith-turn : (i best r : ℕ) → i < n → r ≡ cond (t .low i best) i best
+      → lowestWith t r (range (i + 1) (n - (i + 1))) ≡ lowestWith t best (range i (n - i))
+  unfolding lowestWith
+  lowestWith-turn i best r h e =
+      ap (λ (k : ℕ). lowestWith t k (range (i + 1) (n - (i + 1)))) (e ∙ sym (pick (t .low i best) i best))
+      ∙ ap (λ (k : ℕ). lowestWith t (elim (t .low i best) as (λ _. ℕ) [ true ↦ i | false ↦ best ]) (range k (n - (i + 1)))) (sym (up i))
+      ∙ ap (λ (k : ℕ). lowestWith t best (range i k)) (sym (one-less n i h))
 
-  pub lst-end : (i best : ℕ) → n ≤ i → best ≡ lst t best (range i (n - i))
-  unfolding lst
-  lst-end i best h = ap (λ (k : ℕ). lst t best (range i k)) (sym (done n i h))
+  pub lowestWith-end : (i best : ℕ) → n ≤ i → best ≡ lowestWith t best (range i (n - i))
+  unfolding lowestWith
+  lowestWith-end i best h = ap (λ (k : ℕ). lowestWith t best (range i k)) (sym (none-left n i h))
 
-  walk-stop : (s k c d : ℕ) → k < n → d ≡ nxt t n c → t .eq d s ≡ true → wlk t n s (n - k) c ≡ c ∷ []
-  unfolding wlk
+  walk-stop : (s k c d : ℕ) → k < n → d ≡ nextWith t n c → t .eq d s ≡ true → walkWith t n s (n - k) c ≡ c ∷ []
+  unfolding walkWith
   walk-stop s k c d h e q =
-      ap (λ (j : ℕ). wlk t n s j c) (left n k h)
-      ∙ ap (λ (b : Bool). c ∷ elim b as (λ _. List ℕ) [ true ↦ [] | false ↦ wlk t n s (n - (k + 1)) (nxt t n c) ])
+      ap (λ (j : ℕ). walkWith t n s j c) (one-less n k h)
+      ∙ ap (λ (b : Bool). c ∷ elim b as (λ _. List ℕ) [ true ↦ [] | false ↦ walkWith t n s (n - (k + 1)) (nextWith t n c) ])
       (ap (λ (j : ℕ). t .eq j s) (sym e) ∙ q)
 
-  walk-on : (s k c d : ℕ) → k < n → d ≡ nxt t n c → t .eq d s ≡ false → wlk t n s (n - k) c ≡ c ∷ wlk t n s (n - (k + 1)) d
-  unfolding wlk
+  walk-on : (s k c d : ℕ) → k < n → d ≡ nextWith t n c → t .eq d s ≡ false → walkWith t n s (n - k) c ≡ c ∷ walkWith t n s (n - (k + 1)) d
+  unfolding walkWith
   walk-on s k c d h e q =
-      ap (λ (j : ℕ). wlk t n s j c) (left n k h)
-      ∙ ap (λ (b : Bool). c ∷ elim b as (λ _. List ℕ) [ true ↦ [] | false ↦ wlk t n s (n - (k + 1)) (nxt t n c) ])
+      ap (λ (j : ℕ). walkWith t n s j c) (one-less n k h)
+      ∙ ap (λ (b : Bool). c ∷ elim b as (λ _. List ℕ) [ true ↦ [] | false ↦ walkWith t n s (n - (k + 1)) (nextWith t n c) ])
       (ap (λ (j : ℕ). t .eq j s) (sym e) ∙ q)
-      ∙ ap (λ (j : ℕ). c ∷ wlk t n s (n - (k + 1)) j) (sym e)
+      ∙ ap (λ (j : ℕ). c ∷ walkWith t n s (n - (k + 1)) j) (sym e)
 
-  walk-end : (s k c : ℕ) → n ≤ k → wlk t n s (n - k) c ≡ []
-  unfolding wlk
-  walk-end s k c h = ap (λ (j : ℕ). wlk t n s j c) (done n k h)
+  walk-end : (s k c : ℕ) → n ≤ k → walkWith t n s (n - k) c ≡ []
+  unfolding walkWith
+  walk-end s k c h = ap (λ (j : ℕ). walkWith t n s j c) (none-left n k h)
+
+-- ---- at most so many vertices
+pub walk-few : (t : Tests) (n s d c : ℕ) → length (walkWith t n s d c) ≤ d
+unfolding walkWith
+walk-few t n s zero c = omega arith
+walk-few t n s (suc d) c = go (t .eq (nextWith t n c) s) (walk-few t n s d (nextWith t n c))
+  where
+    go : (b : Bool) → length (walkWith t n s d (nextWith t n c)) ≤ d
+        → length (c ∷ elim b [ true ↦ [] | false ↦ walkWith t n s d (nextWith t n c) ]) ≤ suc d
+    go true h = omega arith
+    go false h = omega arith
 
 -- ---- the stores
-points-long : (p : List Float) (is : List ℕ) → length (pointsAt p is) ≡ 2 * length is
+pub points-long : (p : List Float) (is : List ℕ) → length (pointsAt p is) ≡ 2 * length is
 unfolding pointsAt
 points-long p [] = refl
 points-long p (i ∷ is) = two (length (pointsAt p is)) (length is) (points-long p is)
@@ -102,19 +111,19 @@ laid-points : (p : List Float) (is : List ℕ) (old : List Float) → 2 * length
     → sets old 0 (pointsAt p is) ≡ laid (pointsAt p is) old
 laid-points p is old fit = laid-is (pointsAt p is) old (omega (arith, points-long p is))
 
--- k vertices are stored, c is the next one, and what is left of the walk gives the rest of the hull
+-- k vertices are stored, c is the next one, and what is one-less of the walk gives the rest of the hull
 pub record Walked (p : List Float) (s k c : ℕ) (old new : List Float) : Type 0 where
   pub seen : List ℕ
   pub long : length seen ≡ k
-  pub rest : seen ++ wlk (hullTests p) (many p) s (many p - k) c ≡ hullOf p (many p)
+  pub rest : seen ++ walkWith (hullTests p) (many p) s (many p - k) c ≡ hullOf p (many p)
   pub list : new ≡ sets old 0 (pointsAt p seen)
 
 pub walked-begin : (p : List Float) (s : ℕ) (old : List Float) → s ≡ startOf p → Walked p s 0 s old old
-unfolding hullOf wrap startOf pointsAt
+unfolding hullOf hullWith startOf pointsAt
 walked-begin p s old e = record {
   seen = [];
   long = refl;
-  rest = ap (λ (k : ℕ). wlk (hullTests p) (many p) s k s) (all (many p)) ∙ ap (λ (k : ℕ). wlk (hullTests p) (many p) k (many p) k) e;
+  rest = ap (λ (k : ℕ). walkWith (hullTests p) (many p) s k s) (all (many p)) ∙ ap (λ (k : ℕ). walkWith (hullTests p) (many p) k (many p) k) e;
   list = refl;
 }
 
@@ -137,17 +146,17 @@ module _ (p : List Float) (s k c : ℕ) (old new : List Float) (v : Walked p s k
       omega-one : (a : ℕ) → a ≡ k → a + 1 ≡ k + 1
       omega-one a e = omega arith
 
-  pub walked-turn : (d : ℕ) → k < many p → d ≡ nxt (hullTests p) (many p) c → hullTests p .eq d s ≡ false
+  pub walked-turn : (d : ℕ) → k < many p → d ≡ nextWith (hullTests p) (many p) c → hullTests p .eq d s ≡ false
       → Walked p s (k + 1) d old (set (set new (2 * k) x) (2 * k + 1) y)
   walked-turn d l e q = record {
     seen = v .seen ++ (c ∷ []);
     long = longer;
-    rest = append-assoc (v .seen) (c ∷ []) (wlk (hullTests p) (many p) s (many p - (k + 1)) d)
+    rest = append-assoc (v .seen) (c ∷ []) (walkWith (hullTests p) (many p) s (many p - (k + 1)) d)
         ∙ ap (λ (t : List ℕ). v .seen ++ t) (sym (walk-on (hullTests p) (many p) s k c d l e q)) ∙ v .rest;
     list = stored;
   }
 
-  pub walked-stop : (d : ℕ) → k < many p → d ≡ nxt (hullTests p) (many p) c → hullTests p .eq d s ≡ true → 2 * many p ≤ length old
+  pub walked-stop : (d : ℕ) → k < many p → d ≡ nextWith (hullTests p) (many p) c → hullTests p .eq d s ≡ true → 2 * many p ≤ length old
       → (k + 1 ≡ length (hullOf p (many p))) × (set (set new (2 * k) x) (2 * k + 1) y ≡ laid (pointsAt p (hullOf p (many p))) old)
   walked-stop d l e q fit =
       let h : v .seen ++ (c ∷ []) ≡ hullOf p (many p) =
@@ -178,4 +187,4 @@ walked-end p s k c old new v l u fit =
 pub hull-none : (p : List Float) (old : List Float) → many p ≡ 0
     → (0 ≡ length (hullOf p (many p))) × (old ≡ laid (pointsAt p (hullOf p (many p))) old)
 hull-none p old e = subst (λ (n : ℕ). (0 ≡ length (hullOf p n)) × (old ≡ laid (pointsAt p (hullOf p n)) old)) (sym e)
-    (unfold hullOf wrap wlk pointsAt in (refl, refl))
+    (unfold hullOf hullWith walkWith pointsAt in (refl, refl))

@@ -1,4 +1,4 @@
--- The hull's door, with document 01's refusal 3: what `convex_hull` answers and leaves in the lent list. Definitions only. Assumes nothing.
+-- The hull's door, with refusal 3: what `convex_hull` answers and leaves in the lent list. Definitions only. Assumes nothing.
 use mathlib.Core.List.{List}
 use Prim.Native.Nat.{ℕ}
 use lib.Dec.{leb}

@@ -1,14 +1,15 @@
--- The hull of a list of f32 points, as document 01 has it under "Hull and quad": the Rust's walk with f32 tests, on any input, NaN and -0
+-- The hull of a list of f32 points, by rules 18 to 20: the Rust's walk with f32 tests, on any input, NaN and -0
 -- included. It starts at the least x, then the least y, by total order. Definitions only. Assumes nothing.
 use mathlib.Core.Bool.{Bool, not, _&&_, _||_}
 use mathlib.Core.List.{List, map}
 use Prim.Native.Nat.{ℕ}
 use lib.ListN.{length, getD}
 use lib.Ieee.{Float, binary32, lt, eq}
+use Rattle.ieee.specs.Constants.{0f}
 use Rattle.ieee.specs.Ops.{before}
 use Rattle.ieee.specs.Cross.{cross, d2}
-use Rattle.whole.specs.Wrap.{Tests, wrap}
-use Rattle.hull.specs.Points.{0f, many, xAt, yAt, pointsAt, floatsOf}
+use Rattle.whole.specs.Walk.{Tests, hullWith}
+use Rattle.hull.specs.Points.{many, xAt, yAt, pointsAt, floatsOf}
 
 -- The turn from point o over a to b, and the squared distance of a and b.
 unfoldable pub crossAt : List Float → ℕ → ℕ → ℕ → Float
@@ -31,11 +32,11 @@ sameAt l i j = eq (xAt l i) (xAt l j) && eq (yAt l i) (yAt l j)
 
 -- The tests of the walk.
 abbrev pub hullTests : List Float → Tests
-hullTests l = record { bet = betterAt l; low = lowerAt l; eq = sameAt l }
+hullTests l = record { better = betterAt l; low = lowerAt l; eq = sameAt l }
 
 -- The numbers in the list of the hull's vertices, of n points.
 unfoldable pub hullOf : List Float → ℕ → List ℕ
-hullOf l n = wrap (hullTests l) n
+hullOf l n = hullWith (hullTests l) n
 
 -- The hull of a list of points: the numbers of its vertices.
 abbrev pub hullFloats : List Float → List Float

@@ -1,4 +1,4 @@
--- Lists of points, as document 01 has them under "Boundary points" and "Forms the Rust has and Rattle lacks": f32 numbers, x and y
+-- Lists of points, by rules 16 and 17: f32 numbers, x and y
 -- alternating, and points in doubled whole coordinates, so that centres and edges of pixels are whole numbers. Definitions only. Assumes
 -- nothing.
 use mathlib.Core.Bool.{false}
@@ -6,12 +6,9 @@ use mathlib.Core.List.{List, [], _∷_, map, List·Memᴰ}
 use Prim.Native.Nat.{ℕ, _+_, _*_, _/_, _≤_}
 use lib.ListN.{length, getD}
 use lib.IntN.{pos}
-use lib.Ieee.{Float, binary32, round, ofBits}
+use lib.Ieee.{Float, binary32, round}
 use Rattle.whole.specs.Points.{Pt}
-
--- The number 0 as an f32.
-abbrev pub 0f : Float
-0f = ofBits binary32 0
+use Rattle.ieee.specs.Constants.{0f}
 
 -- How many points a list of numbers has: whole ones only.
 abbrev pub many : {A : Type 0} → List A → ℕ

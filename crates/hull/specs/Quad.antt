@@ -1,16 +1,15 @@
--- The quad of a hull, as document 01 has it under "Hull and quad": the farthest pair and the farthest point on either side of it,
+-- The quad of a hull, by rules 18 to 20: the farthest pair and the farthest point on either side of it,
 -- clockwise, with f32 tests, on any input. Definitions only. Assumes nothing.
 use mathlib.Core.Bool.{not}
 use mathlib.Core.List.{List, [], _∷_, map}
 use Prim.Native.Nat.{ℕ}
 use lib.ListN.{length, getD}
 use lib.Ieee.{Float, binary32, ofBits, add, sub, mul, lt, le}
+use Rattle.ieee.specs.Constants.{0f}
 use Rattle.laws.specs.Said.{Said, none, give}
-use Rattle.whole.specs.Wrap.{Ops, iquad}
-use Rattle.hull.specs.Points.{0f, many, xAt, yAt, pointsAt, floatsOf}
+use Rattle.whole.specs.Walk.{Ops, quadWith}
+use Rattle.hull.specs.Points.{many, xAt, yAt, pointsAt, floatsOf}
 use Rattle.hull.specs.Hull.{crossAt, d2At}
-use Rattle.hull.specs.declared.points.Point.{Point}
-use Rattle.hull.specs.declared.points.Quad.{Quad}
 use Rattle.hull.specs.declared.points.Corners.{Corners}
 use Rattle.hull.specs.declared.points.Corners.the-variants.{Found, NoQuad}
 
@@ -31,7 +30,7 @@ quadOps l = record { low = minusOne; nil = 0f; less = lt; d = d2At l; side = cro
 
 -- The numbers in the list of the quad's corners, of n vertices; none where there is no quad.
 unfoldable pub quadOf : List Float → ℕ → List ℕ
-quadOf l n = iquad (quadOps l) n
+quadOf l n = quadWith (quadOps l) n
 
 -- The quad of a list of vertices: the numbers of its corners.
 abbrev pub quadFloats : List Float → List Float

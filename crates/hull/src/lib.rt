@@ -20,8 +20,8 @@ pub enum Hulled {
 // Stores the vertices of the hull in out and tells how many there are; the places past them stay as
 // they are. 3 where out has fewer numbers than p, and nothing is touched.
 pub fn convex_hull(p: &[f32], out: &mut [f32]) -> Hulled
-    ensures { λ r. ⌜ r ≡ hulled (now (p .entry)) (length (now (out .entry))) ⌝ }
-    ensures { λ r. ⌜ now (out .exit) ≡ verticesAfter r (now (p .entry)) (now (out .entry)) ⌝ }
+    ensures answer { λ r. ⌜ r ≡ hulled (now (p .entry)) (length (now (out .entry))) ⌝ }
+    ensures out { λ r. ⌜ now (out .exit) ≡ verticesAfter r (now (p .entry)) (now (out .entry)) ⌝ }
 {
     if out.len() < p.len() {
         return Hulled::Refused(3);

@@ -7,12 +7,13 @@ ghost use mathlib.Core.Path.{_≡_};
 ghost use mathlib.Core.List.{map};
 ghost use Prim.Native.Nat.{_+_, _-_, _<_};
 ghost use lib.Ieee.{lt};
+ghost use Rattle.ieee.specs.Constants.{0f};
 ghost use Rattle.whole.specs.Hull.{range};
-ghost use Rattle.whole.specs.Wrap.{keep, ipairs, with-i};
-ghost use Rattle.hull.specs.Points.{many, 0f};
+ghost use Rattle.whole.specs.Walk.{keep, indexPairs, with-i};
+ghost use Rattle.hull.specs.Points.{many};
 ghost use Rattle.hull.specs.Hull.{crossAt};
 ghost use Rattle.hull.specs.Quad.{laceAt, areaAt, minusOne};
-ghost use Rattle.hull.specs.Steps.{keeps, kept1, kept2, apart};
+ghost use Rattle.hull.specs.Inner.{keeps, kept1, kept2, apart};
 
 // A term of the area.
 fn lace_at(p: &[f32], a: usize, b: usize) -> f32
@@ -35,13 +36,13 @@ pub fn area_at(p: &[f32], a: usize, b: usize, c: usize, d: usize) -> f32
 }
 
 // A point with how far out it lies.
-pub struct Kept {
+pub struct Outermost {
     pub at: usize,
     pub val: f32,
 }
 
 // Of k and point i the one that is farther out; under: on the side where the turn is negative.
-fn farther(p: &[f32], a: usize, b: usize, k: Kept, i: usize, under: bool) -> Kept
+fn farther(p: &[f32], a: usize, b: usize, k: Outermost, i: usize, under: bool) -> Outermost
     requires { ⌜
         (a < many (now p))
         × (b < many (now p))
@@ -55,18 +56,18 @@ fn farther(p: &[f32], a: usize, b: usize, k: Kept, i: usize, under: bool) -> Kep
     let val = k.val;
     if under {
         if s < val {
-            return Kept { at: i, val: s };
+            return Outermost { at: i, val: s };
         }
         return k;
     }
     if val < s {
-        return Kept { at: i, val: s };
+        return Outermost { at: i, val: s };
     }
     k
 }
 
 // The point farthest out on one side of a and b; a itself where there is none.
-pub fn most(p: &[f32], a: usize, b: usize, under: bool) -> Kept
+pub fn most(p: &[f32], a: usize, b: usize, under: bool) -> Outermost
     requires { ⌜ (a < many (now p)) × (b < many (now p)) ⌝ }
     ensures { λ r. ⌜
         ((r .at, r .val) ≡ keep (keeps under) (crossAt (now (p .entry)) a b) a 0f
@@ -74,7 +75,7 @@ pub fn most(p: &[f32], a: usize, b: usize, under: bool) -> Kept
         × (r .at < many (now (p .entry))) ⌝ }
 {
     let n = p.len() / 2;
-    let mut k = Kept { at: a, val: 0.0 };
+    let mut k = Outermost { at: a, val: 0.0 };
     let mut i = 0;
     while i < n {
         k = farther(p, a, b, k, i, under);
@@ -135,7 +136,7 @@ pub fn farthest(p: &[f32]) -> Pair
     requires { ⌜ 0 < many (now p) ⌝ }
     ensures { λ r. ⌜
         (((r .a, r .b), r .far)
-        ≡ keep lt (apart (now (p .entry))) (0, 0) minusOne (ipairs 0 (many (now (p .entry)))))
+        ≡ keep lt (apart (now (p .entry))) (0, 0) minusOne (indexPairs 0 (many (now (p .entry)))))
         × (r .a < many (now (p .entry)))
         × (r .b < many (now (p .entry))) ⌝ }
 {

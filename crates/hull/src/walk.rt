@@ -7,12 +7,11 @@ ghost use mathlib.Core.Path.{_≡_};
 ghost use mathlib.Core.Bool.{cond};
 ghost use Prim.Native.Nat.{_*_, _≤_, _<_};
 ghost use lib.ListN.{length};
-ghost use Rattle.whole.specs.Wrap.{nxt};
+ghost use Rattle.whole.specs.Walk.{nextWith};
 ghost use Rattle.laws.specs.Lent.{laid};
-ghost use Rattle.hull.specs.Points.{many, xAt, yAt};
-ghost use Rattle.hull.specs.Hull.{betterAt, lowerAt, sameAt, hullTests};
-ghost use Rattle.hull.specs.Hull.{hullOf, hullFloats};
-ghost use Rattle.hull.specs.Steps.{startOf};
+ghost use Rattle.hull.specs.Points.{many};
+ghost use Rattle.hull.specs.Hull.{betterAt, lowerAt, sameAt, hullTests, hullOf, hullFloats};
+ghost use Rattle.hull.specs.Inner.{startOf};
 
 // Whether i is to replace n, as seen from c.
 fn better(p: &[f32], c: usize, n: usize, i: usize) -> bool
@@ -46,7 +45,7 @@ fn taken(p: &[f32], cur: usize, next: usize, i: usize) -> usize
 fn next_of(p: &[f32], cur: usize) -> usize
     requires { ⌜ cur < many (now p) ⌝ }
     ensures { λ r. ⌜
-        (r ≡ nxt (hullTests (now (p .entry))) (many (now (p .entry))) cur)
+        (r ≡ nextWith (hullTests (now (p .entry))) (many (now (p .entry))) cur)
         × (r < many (now (p .entry))) ⌝ }
 {
     let n = p.len() / 2;
@@ -118,8 +117,8 @@ fn same_at(p: &[f32], i: usize, j: usize) -> bool
 // as they are.
 pub fn convex_hull(p: &[f32], out: &mut [f32]) -> usize
     requires { ⌜ 2 * many (now p) ≤ length (now out) ⌝ }
-    ensures { λ r. ⌜ r ≡ length (hullOf (now (p .entry)) (many (now (p .entry)))) ⌝ }
-    ensures { λ _. ⌜ now (out .exit) ≡ laid (hullFloats (now (p .entry))) (now (out .entry)) ⌝ }
+    ensures answer { λ r. ⌜ r ≡ length (hullOf (now (p .entry)) (many (now (p .entry)))) ⌝ }
+    ensures out { λ _. ⌜ now (out .exit) ≡ laid (hullFloats (now (p .entry))) (now (out .entry)) ⌝ }
 {
     let n = p.len() / 2;
     if n == 0 {

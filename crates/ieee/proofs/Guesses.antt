@@ -2,7 +2,6 @@
 --   near-of        r is the whole number nearest to the root of m where m lies between the squares of r − 1/2 and r + 1/2
 --   number-of      what is at or above a number is no NaN
 use mathlib.Core.Path.{_≡_, sym, ap, _∙_}
-use mathlib.Core.Logic.{⊎-elim}
 use mathlib.Core.Bool.{Bool, true, false, not, cond, false≢true}
 use Prim.Native.Nat.{ℕ, zero, suc, _+_, _*_, _≤_, _<_}
 use native.Mathlib.Nat.{mul-le-mul}
@@ -12,14 +11,11 @@ use lib.Dec.{T, ltb}
 use lib.Ieee.{Float, nan, inf, fin, lt, eq, le, isNan}
 use borrow.Author.Tests.{lt-ltb, le-ltb}
 use Rattle.ieee.specs.Root.{isqrt, nearRoot}
-use Rattle.ieee.proofs.Roots.{Root, isqrt-is}
+use Rattle.ieee.proofs.Roots.{Root, isqrt-is, sq-mono}
 
 -- ---- the nearest
 mono : (a b : ℕ) → a ≤ b → a * a + a ≤ b * b + b
 mono a b h = let z = mul-le-mul h h in omega arith
-
-sq : (a b : ℕ) → a ≤ b → a * a ≤ b * b
-sq a b h = mul-le-mul h h
 
 -- P(t) < m ≤ P(t + 1) with P(n) = n·n + n, where q is the whole part of m's root
 over : (m t q : ℕ) → t * t + t < m → m ≤ (t + 1) * (t + 1) + (t + 1) → q * q ≤ m → m < (q + 1) * (q + 1) → q * q + q < m → t ≡ q
@@ -35,7 +31,7 @@ under : (m t q : ℕ) → t * t + t < m → m ≤ (t + 1) * (t + 1) + (t + 1) �
 under m t q lo hi a h = elim (decLt t q) [
   | no n ↦ absurd (let l : q ≤ t = omega (arith, n) in let z = mono q t l in omega arith)
   | yes l ↦ elim (decLt (t + 1) q) [
-    | yes k ↦ absurd (let z = sq (t + 2) q (omega arith) in omega arith)
+    | yes k ↦ absurd (let z = sq-mono (t + 2) q (omega arith) in omega arith)
     | no n ↦ omega (arith, n)
   ]
 ]

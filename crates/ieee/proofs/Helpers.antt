@@ -1,4 +1,12 @@
--- What the code's tests say. Assumes nothing.
+-- What the code's tests say.
+--     zero, +0 in either format: +0, zero32, zero64
+--     `abs`: abs-neg, abs-zero, abs-else
+--     `is_finite`: finite-yes, finite-high, finite-low, finite-by
+--     the sign is the highest bit: sign-bit
+--     NaN tests: ne-nan, lt-numbers
+--     `max` and `before`, by the tests: maxBy, max-by, beforeBy, before-by
+--     float to an unsigned integer: trunc-in, trunc-over, trunc-none, above-minus-one, below-64, trunc-fits
+-- Assumes nothing.
 use mathlib.Core.Path.{_≡_, refl, sym, ap, _∙_, subst}
 use Prim.Native.Nat.{ℕ, zero, suc, min, _+_, _-_, _*_, _/_, _%_, _^_, _≤_, _<_}
 use native.Mathlib.Nat.{zero-mul, mul-one, one-mul, mul-pos, zero-lt-suc, lt-irrefl, div-lt-iff-lt-mul, le-div-iff-mul-le, zero-div}
@@ -19,7 +27,7 @@ use Rattle.ieee.specs.Ops.{abs, sign, finite, max, before}
 T-of : {b : Bool} → b ≡ true → T b
 T-of e = subst T (sym e) tt
 
-nT-of : {b : Bool} → b ≡ false → T (not b)
+pub nT-of : {b : Bool} → b ≡ false → T (not b)
 nT-of e = subst (λ (b : Bool). T (not b)) (sym e) tt
 
 -- ---- zero, +0 in either format

@@ -10,14 +10,12 @@ use native.Mathlib.Nat.{lt-of-lt-of-le, one-mul, eq-or-lt-of-le, div-eq-of-lt, m
 use native.Mathlib.Numerals.{add-one}
 use native.Mathlib.Omega.{arith}
 use mathlib.Core.Bool.{Bool, true, false, not, cond}
-use lib.Dec.{T, leb, leb→le, nleb→lt, nltb→le, lit<}
-use lib.Arith.{le→nltb}
+use lib.Dec.{T, leb, leb→le, nleb→lt, lit<}
 use lib.Pow.{pow-mono, shl-exact}
-use lib.Ieee.{Float, nan, binary32, binary64, nearest, ofBits, toBits, nanBits, isNan, fits}
+use lib.Ieee.{Float, binary32, binary64, nearest, ofBits}
 use lib.Ieee.Nearest.{closest}
-use lib.Ieee.Bits.{ofBits-toBits, nanBits-is, nanBits-above}
 use Rattle.ieee.specs.Narrow.{narrow}
-use Rattle.ieee.specs.Patterns.{mant64, expo64, dropped, cut64, narrowBits}
+use Rattle.ieee.specs.Inner.{mant64, expo64, dropped, cut64, narrowBits}
 use Rattle.ieee.proofs.Roots.{compare-lt, compare-gt, compare-eq}
 use Rattle.ieee.proofs.Values.{lt-or-ge}
 use Rattle.ieee.proofs.Narrows.{kept-le, narrow-finite, narrow-inf}

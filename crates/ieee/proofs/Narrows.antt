@@ -7,15 +7,13 @@
 use mathlib.Core.Path.{_≡_, refl, sym, ap, _∙_, subst}
 use mathlib.Core.Logic.{_⊎_, inl, inr}
 use Prim.Native.Nat.{ℕ, suc, min, _+_, _-_, _*_, _/_, _%_, _^_, _≤_, _<_, compare}
-use native.Mathlib.Nat.{le-trans, le-of-eq, lt-of-lt-of-le, mul-assoc, mul-pos, mul-le-mul-right, div-lt-iff-lt-mul, le-div-iff-mul-le}
-use native.Mathlib.Nat.{eq-or-lt-of-le}
+use native.Mathlib.Nat.{le-trans, le-of-eq, lt-of-lt-of-le, mul-assoc, mul-pos, mul-le-mul-right, div-lt-iff-lt-mul, le-div-iff-mul-le, eq-or-lt-of-le}
 use native.Mathlib.Omega.{arith}
 use mathlib.Core.Bool.{Bool, true, false, not, cond}
 use lib.Dec.{T, leb, ltb, nltb→le}
 use lib.Arith.{le→nltb}
 use lib.Pow.{pow-add, pow-pos, pow-mono, shl-lt}
-use lib.Ieee.{Float, nan, inf, fin, binary32, binary64, up, down, size, units, odd, round, ofBits, ofFields, toBits, nanBits}
-use lib.Ieee.{isNan, fits}
+use lib.Ieee.{Float, nan, inf, fin, binary32, binary64, up, down, size, units, odd, round, ofBits, ofFields, toBits, nanBits, isNan, fits}
 use lib.Ieee.Digits.{size-le}
 use lib.Ieee.Fits.{down-pos, nearest-le, round-is}
 use lib.Ieee.Exact.{HasValue}
@@ -23,7 +21,7 @@ use lib.Ieee.Nearest.{closest, closest-same, nearest-ge}
 use lib.Ieee.Scale.{round-same}
 use lib.Ieee.Bits.{cond-no, ofBits-toBits, nanBits-is, nanBits-above}
 use Rattle.ieee.specs.Narrow.{narrow}
-use Rattle.ieee.specs.Patterns.{mant64, expo64, dropped, cut64}
+use Rattle.ieee.specs.Inner.{mant64, expo64, dropped, cut64}
 use Rattle.ieee.proofs.Values.{lt-or-ge, size-exact, decode, units-bits}
 
 narrow-value : (x : Float) (s : Bool) (U : ℕ) → HasValue x s U (2 ^ 1074) → narrow x ≡ round binary32 s U (2 ^ 1074)

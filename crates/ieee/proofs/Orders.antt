@@ -5,7 +5,7 @@ use mathlib.Core.Path.{_≡_, refl, sym, ap, _∙_, subst}
 use Prim.Native.Nat.{ℕ, zero, suc, _+_, _-_, _*_, _^_, _≤_, _<_}
 use native.Mathlib.Nat.{mul-assoc, mul-one, zero-mul, le-antisymm}
 use native.Mathlib.Omega.{arith}
-use mathlib.Core.Bool.{Bool, true, false, not, true≢false, false≢true}
+use mathlib.Core.Bool.{Bool, true, false, true≢false, false≢true}
 use lib.IntN.{ℤ, pos, negsuc}
 use lib.Signed.{ltZ}
 use lib.Dec.{T, ltb, ltb→lt, lt→ltb, nltb→le}
@@ -14,9 +14,10 @@ use lib.Ieee.{Float, nan, inf, fin, binary32, up, down, fits, lt}
 use lib.Ieee.Bits.{is-true}
 use lib.Ieee.Scale.{finite}
 use lib.Ieee.Exact.{HasValue}
+use Rattle.ieee.proofs.Helpers.{nT-of}
 use Rattle.ieee.proofs.Values.{pow-back, fits-parts, value-unique}
 use Rattle.ieee.specs.Ops.{plain}
-use Rattle.ieee.specs.Val.{signed, Val}
+use Rattle.ieee.specs.Inner.{signed, Val}
 use Rattle.ieee.proofs.Vals.{lt-val}
 
 -- ---- in units
@@ -56,9 +57,6 @@ unit-val (fin s (suc m) e) f t = let u =
 -- ---- the order of the whole numbers
 T-of : {b : Bool} → b ≡ true → T b
 T-of e = subst T (sym e) tt
-
-nT-of : {b : Bool} → b ≡ false → T (not b)
-nT-of e = subst (λ (b : Bool). T (not b)) (sym e) tt
 
 ltb-trans : (a b c : ℕ) → ltb a b ≡ true → ltb b c ≡ true → ltb a c ≡ true
 ltb-trans a b c h k = let l = ltb→lt a b (T-of h) in let m = ltb→lt b c (T-of k) in is-true (ltb a c) (lt→ltb a c (omega arith))

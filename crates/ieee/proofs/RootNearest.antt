@@ -7,13 +7,13 @@ use Prim.Native.Nat.{ℕ, zero, suc, _+_, _-_, _*_, _/_, _%_, _^_, _≤_, _<_, c
 use native.Mathlib.Nat.{div-lt-iff-lt-mul, lt-of-le-of-lt, le-refl, le-trans, le-of-eq, le-of-lt, le-antisymm, lt-of-lt-of-le, lt-irrefl}
 use native.Mathlib.Nat.{not-le-of-lt, add-mul, mul-assoc, mul-one, mul-right-comm, mul-le-mul, mul-le-mul-right, mul-lt-mul-of-pos-right}
 use native.Mathlib.Nat.{lt-of-mul-lt-mul-right, eq-of-mul-eq-mul-right, mul-div-cancel, mul-mul-mul-comm, mul-pos, div-mul-le-self}
-use native.Mathlib.Nat.{lt-div-mul-add, suc-mul, add-le-add}
+use native.Mathlib.Nat.{lt-div-mul-add, add-le-add}
 use native.Mathlib.Numerals.{add-one}
 use native.Mathlib.Omega.{arith}
 use mathlib.Core.Bool.{true, false, true≢false}
 use lib.IntN.{ℤ, pos, negsuc}
 use lib.Dec.{T, lit≤}
-use lib.Pow.{pow-lt, pow-add, pow-pos, pow-mono, shl-lt}
+use lib.Pow.{pow-lt, pow-add, pow-pos, pow-mono}
 use lib.Ieee.{Float, nan, inf, fin, binary32, up, down, size, nearest, units, fits}
 use lib.Ieee.Digits.{size-lt, size-le, size-reaches}
 use lib.Ieee.Fits.{nearest-le, down-pos}

@@ -1,5 +1,6 @@
--- The order of roots. Assumes nothing.
---   root-under     where the root of c is below t, so is the root of every x above 0 and below c
+-- The order of roots. Assumes nothing. root-under     where the root of c is below t, so is the root of every x above 0 and below c
+--     root-under
+-- Assumes nothing.
 use mathlib.Core.Path.{_≡_, refl, sym, ap, _∙_, subst}
 use mathlib.Core.Logic.{_⊎_, inl, inr}
 use Prim.Native.Nat.{ℕ, zero, suc, _+_, _*_, _^_, _≤_, _<_}
@@ -16,7 +17,7 @@ use lib.Ieee.Scale.{finite}
 use lib.Ieee.Exact.{HasValue}
 use Rattle.ieee.specs.Claims.{Nearest, RootNearest}
 use Rattle.ieee.specs.Root.{sqrt}
-use Rattle.ieee.specs.Val.{signed, Val}
+use Rattle.ieee.specs.Inner.{signed, Val}
 use Rattle.ieee.proofs.Values.{lt-or-ge}
 use Rattle.ieee.proofs.Vals.{lt-val, zero-val}
 use Rattle.ieee.proofs.Tests.{lt-no-nan-r, ofBits-zero}

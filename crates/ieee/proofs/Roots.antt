@@ -1,11 +1,14 @@
--- `isqrt` is the whole part of the root, and `sqrt` of a value is what a rounding by one comparison gives. Assumes nothing.
+-- `isqrt` is the whole part of the root, and `sqrt` of a value is what a rounding by one comparison gives.
+--     Root, root-unique, rootTo-is, isqrt-is
+--     `compare`, from the order: compare-lt, compare-gt, compare-eq
+--     the root of M * 4 ^ k, with M of 47 or 48 digits: sq-shift, core, rootAt-core, rootAt-is, sqrt-is, root-ge, root-24, near-24
+--     a positive pattern b is mant b * 2 ^ expo b smallest values: square, mant-pos, value32, root-pattern
+--     the steps of the code: start, square-big, k-pos, fourfold
+-- Assumes nothing.
 use mathlib.Core.Path.{_≡_, refl, sym, ap, _∙_, subst}
 use mathlib.Core.Logic.{_⊎_, inl, inr}
 use Prim.Native.Nat.{ℕ, zero, suc, _+_, _-_, _*_, _/_, _%_, _^_, _≤_, _<_, compare, Ordering, Ordering·lt, Ordering·eq, Ordering·gt}
-use native.Mathlib.Nat.{le-trans, le-of-eq, le-antisymm, lt-of-lt-of-le, not-le-of-lt, lt-irrefl, mul-add, add-mul, mul-comm, mul-assoc}
-use native.Mathlib.Nat.{mul-right-comm, mul-one, zero-mul, mul-le-mul, mul-le-mul-right, mul-lt-mul-of-pos-right, mul-pos, mul-div-cancel}
-use native.Mathlib.Nat.{pow-suc, pow-le-pow-left, div-lt-iff-lt-mul, le-div-iff-mul-le, div-eq-of-lt-le, zero-lt-suc, mul-mul-mul-comm}
-use native.Mathlib.Nat.{zero-add}
+use native.Mathlib.Nat.{le-trans, le-of-eq, le-antisymm, lt-of-lt-of-le, not-le-of-lt, lt-irrefl, mul-add, add-mul, mul-comm, mul-assoc, mul-right-comm, mul-one, zero-mul, mul-le-mul, mul-le-mul-right, mul-lt-mul-of-pos-right, mul-pos, mul-div-cancel, pow-suc, pow-le-pow-left, div-lt-iff-lt-mul, le-div-iff-mul-le, div-eq-of-lt-le, zero-lt-suc, mul-mul-mul-comm, zero-add}
 use native.Mathlib.Numerals.{add-one}
 use native.Mathlib.Omega.{arith}
 use mathlib.Core.Bool.{Bool, true, false, not, cond, true≢false}
@@ -18,14 +21,14 @@ use lib.Ieee.Fits.{down-pos}
 use lib.Ieee.Bits.{is-false}
 use lib.Arith.{lt→nleb}
 use Rattle.ieee.specs.Root.{rootTo, isqrt, rootAt, sqrt, nearRoot}
-use Rattle.ieee.specs.Patterns.{mant, expo}
+use Rattle.ieee.specs.Inner.{mant, expo}
 use Rattle.ieee.proofs.Values.{lt-or-ge, size-exact, decode, units-bits}
 
 -- r is the whole part of n's root
 abbrev pub Root : ℕ → ℕ → Type 0
 Root n r = (r * r ≤ n) × (n < (r + 1) * (r + 1))
 
-sq-mono : (a b : ℕ) → a ≤ b → a * a ≤ b * b
+pub sq-mono : (a b : ℕ) → a ≤ b → a * a ≤ b * b
 sq-mono a b h = mul-le-mul h h
 
 root-le : (n r s : ℕ) → r * r ≤ n → n < (s + 1) * (s + 1) → r ≤ s

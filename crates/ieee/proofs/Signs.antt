@@ -1,4 +1,9 @@
--- The sign of a rounded value, and the tests of turns and distances. Assumes nothing.
+-- The sign of a rounded value, and the tests of turns and distances.
+--     `round` below zero is `round` above it, negated: round-neg
+--     the sign of a rounded number: rounds-sign
+--     the turn of three points: small-product, cross-rounds
+--     the sign of a difference of whole numbers is their order: ltZ-sub, cross-lt, cross-eq, d2-val
+-- Assumes nothing.
 use mathlib.Core.Path.{_≡_, refl, sym, ap, _∙_, subst}
 use Prim.Native.Nat.{ℕ, zero, suc, _+_, _-_, _*_, _^_, _≤_, _<_, zero-le}
 use native.Mathlib.Nat.{le-trans, mul-pos, mul-le-mul, zero-mul, zero-lt-suc, le-of-eq}
@@ -14,9 +19,9 @@ use lib.Ieee.Fits.{up-pos, round-is}
 use lib.Ieee.Bits.{is-true, is-false}
 use lib.Ieee.Order.{drop, kept, round-mono}
 use lib.Ieee.Positive.{above, above-of-le}
-use Rattle.ieee.specs.Val.{signed, Val, Rounds, eqZ}
+use Rattle.ieee.specs.Inner.{signed, Val, Rounds, eqZ}
 use Rattle.ieee.proofs.Vals.{rounds-val, lt-val, eq-val, zero-val, sub-rounds, sub-val, mul-val, add-val, pos-sub}
-use Rattle.ieee.specs.Cross.{cross, crossZ, span, d2, d2Z}
+use Rattle.ieee.specs.Cross.{cross, crossZ, exactSpan, d2, d2Z}
 
 -- ---- `round` below zero is `round` above it, negated
 odd-neg : (d q k l : ℕ) → odd d true q k l ≡ neg (odd d false q k l)
@@ -183,11 +188,11 @@ abs-signed-mul (negsuc a) (negsuc b) = refl
 pub small-product : (B P : ℕ) (a b : ℤ) → B * B ≤ P → natAbs a ≤ B → natAbs b ≤ B → natAbs (a *ℤ b) ≤ P
 small-product B P a b q h k = le-trans (le-of-eq (abs-signed-mul a b)) (le-trans (mul-le-mul h k) q)
 
-span-sq : (f : Format) → span f * span f ≤ 2 ^ prec f
+span-sq : (f : Format) → exactSpan f * exactSpan f ≤ 2 ^ prec f
 span-sq binary32 = lit≤ tt
 span-sq binary64 = lit≤ tt
 
-span-in : (f : Format) → span f ≤ 2 ^ prec f
+span-in : (f : Format) → exactSpan f ≤ 2 ^ prec f
 span-in binary32 = lit≤ tt
 span-in binary64 = lit≤ tt
 
@@ -201,14 +206,14 @@ two-in binary64 = lit≤ tt
 
 module _ (f : Format) {ox oy ax ay bx by : Float} {ox′ oy′ ax′ ay′ bx′ by′ : ℤ} (o : Val ox 1 ox′) (p : Val oy 1 oy′) (a : Val ax 1 ax′)
     (b : Val ay 1 ay′) (c : Val bx 1 bx′) (d : Val by 1 by′)
-    (h : natAbs (ax′ -ℤ ox′) ≤ span f) (k : natAbs (by′ -ℤ oy′) ≤ span f) (l : natAbs (ay′ -ℤ oy′) ≤ span f)
-    (m : natAbs (bx′ -ℤ ox′) ≤ span f) where
+    (h : natAbs (ax′ -ℤ ox′) ≤ exactSpan f) (k : natAbs (by′ -ℤ oy′) ≤ exactSpan f) (l : natAbs (ay′ -ℤ oy′) ≤ exactSpan f)
+    (m : natAbs (bx′ -ℤ ox′) ≤ exactSpan f) where
   pub cross-rounds : Rounds f (cross f ox oy ax ay bx by) 2 (crossZ ox′ oy′ ax′ ay′ bx′ by′)
   cross-rounds =
       sub-rounds f
-      (mul-val f (two-in f) (small-product (span f) (2 ^ prec f) (ax′ -ℤ ox′) (by′ -ℤ oy′) (span-sq f) h k)
+      (mul-val f (two-in f) (small-product (exactSpan f) (2 ^ prec f) (ax′ -ℤ ox′) (by′ -ℤ oy′) (span-sq f) h k)
       (sub-val f (one-in f) (le-trans h (span-in f)) a o) (sub-val f (one-in f) (le-trans k (span-in f)) d p))
-      (mul-val f (two-in f) (small-product (span f) (2 ^ prec f) (ay′ -ℤ oy′) (bx′ -ℤ ox′) (span-sq f) l m)
+      (mul-val f (two-in f) (small-product (exactSpan f) (2 ^ prec f) (ay′ -ℤ oy′) (bx′ -ℤ ox′) (span-sq f) l m)
       (sub-val f (one-in f) (le-trans l (span-in f)) b p) (sub-val f (one-in f) (le-trans m (span-in f)) c o))
 
 -- ---- the sign of a difference of whole numbers is their order
@@ -229,8 +234,8 @@ ltZ-sub (negsuc m) (negsuc n) = sub-lt (suc n) (suc m) ∙ leb·suc-suc (suc n) 
 -- so the tests `cross < 0.0` and `cross == 0.0` of the code are comparisons of whole numbers
 module _ (f : Format) {ox oy ax ay bx by : Float} {ox′ oy′ ax′ ay′ bx′ by′ : ℤ} (o : Val ox 1 ox′) (p : Val oy 1 oy′) (a : Val ax 1 ax′)
     (b : Val ay 1 ay′) (c : Val bx 1 bx′) (d : Val by 1 by′)
-    (h : natAbs (ax′ -ℤ ox′) ≤ span f) (k : natAbs (by′ -ℤ oy′) ≤ span f) (l : natAbs (ay′ -ℤ oy′) ≤ span f)
-    (m : natAbs (bx′ -ℤ ox′) ≤ span f) where
+    (h : natAbs (ax′ -ℤ ox′) ≤ exactSpan f) (k : natAbs (by′ -ℤ oy′) ≤ exactSpan f) (l : natAbs (ay′ -ℤ oy′) ≤ exactSpan f)
+    (m : natAbs (bx′ -ℤ ox′) ≤ exactSpan f) where
   pub cross-lt : lt (cross f ox oy ax ay bx by) (ofBits f 0) ≡ ltZ ((ax′ -ℤ ox′) *ℤ (by′ -ℤ oy′)) ((ay′ -ℤ oy′) *ℤ (bx′ -ℤ ox′))
   cross-lt = rounds-sign f (two-in f) (cross-rounds f o p a b c d h k l m) .0
       ∙ ltZ-sub ((ax′ -ℤ ox′) *ℤ (by′ -ℤ oy′)) ((ay′ -ℤ oy′) *ℤ (bx′ -ℤ ox′))
@@ -240,11 +245,11 @@ module _ (f : Format) {ox oy ax ay bx by : Float} {ox′ oy′ ax′ ay′ bx′
 
 module _ (f : Format) {ax ay bx by : Float} {ax′ ay′ bx′ by′ : ℤ} (a : Val ax 1 ax′) (b : Val ay 1 ay′) (c : Val bx 1 bx′)
     (d : Val by 1 by′)
-    (h : natAbs (ax′ -ℤ bx′) ≤ span f) (k : natAbs (ay′ -ℤ by′) ≤ span f) (whole : natAbs (d2Z ax′ ay′ bx′ by′) ≤ 2 ^ prec f) where
+    (h : natAbs (ax′ -ℤ bx′) ≤ exactSpan f) (k : natAbs (ay′ -ℤ by′) ≤ exactSpan f) (whole : natAbs (d2Z ax′ ay′ bx′ by′) ≤ 2 ^ prec f) where
   pub d2-val : Val (d2 f ax ay bx by) 2 (d2Z ax′ ay′ bx′ by′)
   d2-val =
       add-val f (two-in f) whole
-      (mul-val f (two-in f) (small-product (span f) (2 ^ prec f) (ax′ -ℤ bx′) (ax′ -ℤ bx′) (span-sq f) h h)
+      (mul-val f (two-in f) (small-product (exactSpan f) (2 ^ prec f) (ax′ -ℤ bx′) (ax′ -ℤ bx′) (span-sq f) h h)
       (sub-val f (one-in f) (le-trans h (span-in f)) a c) (sub-val f (one-in f) (le-trans h (span-in f)) a c))
-      (mul-val f (two-in f) (small-product (span f) (2 ^ prec f) (ay′ -ℤ by′) (ay′ -ℤ by′) (span-sq f) k k)
+      (mul-val f (two-in f) (small-product (exactSpan f) (2 ^ prec f) (ay′ -ℤ by′) (ay′ -ℤ by′) (span-sq f) k k)
       (sub-val f (one-in f) (le-trans k (span-in f)) b d) (sub-val f (one-in f) (le-trans k (span-in f)) b d))

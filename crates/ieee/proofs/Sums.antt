@@ -8,9 +8,7 @@
 use mathlib.Core.Path.{_≡_, refl, sym, ap, _∙_, subst}
 use mathlib.Core.Logic.{_⊎_, inl, inr}
 use Prim.Native.Nat.{ℕ, zero, suc, _+_, _-_, _*_, _^_, _≤_, _<_}
-use native.Mathlib.Nat.{mul-assoc, mul-comm, mul-right-comm, one-mul, mul-zero, zero-mul, add-zero, add-mul, mul-sub, mul-pos}
-use native.Mathlib.Nat.{mul-mul-mul-comm, mul-lt-mul-of-pos-right, lt-of-mul-lt-mul-right, lt-of-lt-of-le, le-of-mul-le-mul-right}
-use native.Mathlib.Nat.{mul-le-mul-right, eq-or-lt-of-le}
+use native.Mathlib.Nat.{mul-assoc, mul-comm, mul-right-comm, one-mul, mul-zero, zero-mul, add-zero, add-mul, mul-sub, mul-pos, mul-mul-mul-comm, mul-lt-mul-of-pos-right, lt-of-mul-lt-mul-right, lt-of-lt-of-le, le-of-mul-le-mul-right, mul-le-mul-right, eq-or-lt-of-le}
 use native.Mathlib.Omega.{arith}
 use mathlib.Core.Bool.{Bool, true, false, not, _&&_, Bool·beq, cond}
 use lib.IntN.{ℤ, pos, negsuc, negℤ, natAbs, subℕ, _+ℤ_, _-ℤ_, _*ℤ_, negℤ-+ℤ, negℤ-negℤ}
@@ -22,7 +20,7 @@ use lib.Ieee.Fits.{down-pos, reach, two}
 use lib.Ieee.Bits.{is-true, is-false}
 use lib.Ieee.Exact.{HasValue, round-exact}
 use lib.Ieee.Scale.{round-same}
-use Rattle.ieee.specs.Val.{signed, Val, Rounds}
+use Rattle.ieee.specs.Inner.{signed, Val, Rounds}
 
 -- ---- where `round` is exact
 pub exact : (f : Format) (s : Bool) (n j : ℕ) → n ≤ 2 ^ prec f → j ≤ low f → HasValue (round f s n (2 ^ j)) s n (2 ^ j)

@@ -1,4 +1,9 @@
--- What the tests `x != x`, `x > 0.0`, `x == 0.0` and a comparison of bit patterns say of an `f32`. Assumes nothing.
+-- What the tests `x != x`, `x > 0.0`, `x == 0.0` and a comparison of bit patterns say of an `f32`.
+--     ofBits-zero
+--     a test that passed rules a NaN out: lt-no-nan-r, ne-no-nan, no-nan-pattern
+--     0 < x: inf-of-bits, pos-bits
+--     the root's other cases: sqrt-inf, sqrt-zero, sqrt-else
+-- Assumes nothing.
 use mathlib.Core.Path.{_≡_, refl, sym, ap, _∙_, subst}
 use mathlib.Core.Logic.{_⊎_, inl, inr}
 use Prim.Native.Nat.{ℕ, zero, suc, _+_, _*_, _/_, _%_, _≤_, _<_}

@@ -4,8 +4,7 @@
 --   lt-no-nan-l                        what is below something is no NaN
 use mathlib.Core.Path.{_≡_, refl, sym, ap, _∙_, subst}
 use Prim.Native.Nat.{ℕ, _+_, _-_, _*_, _/_, _%_, _^_, _≤_, _<_}
-use native.Mathlib.Nat.{le-trans, le-of-eq, lt-of-lt-of-le, mul-comm, mul-assoc, mul-one, one-mul, mul-right-comm, mul-pos, zero-lt-suc}
-use native.Mathlib.Nat.{mul-le-mul-right, mul-lt-mul-of-pos-right, div-lt-iff-lt-mul, le-div-iff-mul-le, zero-add}
+use native.Mathlib.Nat.{le-trans, le-of-eq, lt-of-lt-of-le, mul-comm, mul-assoc, mul-one, one-mul, mul-right-comm, mul-pos, zero-lt-suc, mul-le-mul-right, mul-lt-mul-of-pos-right, div-lt-iff-lt-mul, le-div-iff-mul-le, zero-add}
 use native.Mathlib.Omega.{arith}
 use mathlib.Core.Bool.{Bool, true, false, not, _&&_, cond, true≢false, false≢true}
 use lib.IntN.{pos, negsuc}
@@ -16,8 +15,9 @@ use lib.Ieee.{Float, nan, inf, fin, binary32, binary64, up, down, size, lt, isNa
 use lib.Ieee.Digits.{size-lt, size-le, size-reaches}
 use lib.Ieee.Fits.{down-pos}
 use lib.Ieee.Bits.{is-true, is-false}
+use Rattle.ieee.proofs.Helpers.{nT-of}
 use Rattle.ieee.specs.Narrow.{narrow, least32, most32, usual64}
-use Rattle.ieee.specs.Patterns.{narrowBits}
+use Rattle.ieee.specs.Inner.{narrowBits}
 use Rattle.ieee.proofs.Values.{toBits-value, pattern}
 use Rattle.ieee.proofs.Narrows.{narrow-finite}
 
@@ -73,9 +73,6 @@ pattern-range N lo hi =
 -- ---- the two tests
 T-of : {b : Bool} → b ≡ true → T b
 T-of e = subst T (sym e) tt
-
-nT-of : {b : Bool} → b ≡ false → T (not b)
-nT-of e = subst (λ (b : Bool). T (not b)) (sym e) tt
 
 -- a / d smallest values of a positive fraction a / d
 low-side : (a d : ℕ) → 0 < d → 1 * 1 * d ≤ a * 2 ^ 126 → 2 ^ 948 ≤ a * 2 ^ 1074 / d

@@ -21,10 +21,9 @@ use lib.Ieee.Fits.{down-pos}
 use lib.Ieee.Bits.{is-true, is-false}
 use lib.Ieee.Exact.{HasValue}
 use lib.Ieee.Back.{round-whole}
-use Rattle.ieee.specs.Val.{signed, Val, eqZ}
+use Rattle.ieee.specs.Inner.{signed, Val, eqZ}
 use Rattle.ieee.proofs.Sums.{cross-l, cross-r, ltb-same}
-pub use Rattle.ieee.proofs.Sums.{exact, plus-same, less-same, add-sum, pos-sub, rounds-val, add-rounds, add-val, neg-val}
-pub use Rattle.ieee.proofs.Sums.{sub-rounds, sub-val, mul-round, mul-rounds, mul-val}
+pub use Rattle.ieee.proofs.Sums.{exact, plus-same, less-same, add-sum, pos-sub, rounds-val, add-rounds, add-val, neg-val, sub-rounds, sub-val, mul-round, mul-rounds, mul-val}
 
 -- ---- comparisons
 ltb-zero : (a : ℕ) → ltb a 0 ≡ false

@@ -1,5 +1,12 @@
 -- A value of a format is its sign and its size: two that fit and have the same are equal. And its bit pattern, from its sign and its size,
--- and back. Assumes nothing.
+-- and back.
+--     the bit pattern of a value, from its sign and its size in the format's smallest values: pattern, toBits-value, value-unique,
+--     lt-or-ge
+--     how many digits a number has: size-exact
+--     a value's digits and its place: pow-back, fits-parts
+--     reading a pattern: a finite value is its digits, with the leading one, times a power of two: field, sig, decode
+--     writing a pattern: q * 2 ^ k smallest values of an `f32` have the pattern k * 2 ^ 23 + q, with the sign: short-fits, units-bits
+-- Assumes nothing.
 use mathlib.Core.Path.{_≡_, refl, sym, ap, _∙_, subst}
 use mathlib.Core.Logic.{_⊎_, inl, inr}
 use Prim.Native.Nat.{ℕ, zero, suc, min, _+_, _-_, _*_, _/_, _%_, _^_, _≤_, _<_}

@@ -9,7 +9,7 @@ use lib.Dec.{lit≤}
 use lib.Ieee.{Float, nan, inf, fin, binary32, up, down, mul, ofBits, toUnsigned}
 use lib.Ieee.Fits.{down-pos}
 use lib.Ieee.Exact.{HasValue}
-use Rattle.ieee.specs.Val.{signed, Val}
+use Rattle.ieee.specs.Inner.{signed, Val}
 use Rattle.ieee.proofs.Vals.{mul-val}
 
 size-of : (s : Bool) (k n : ℕ) → signed s k ≡ pos n → k ≡ n

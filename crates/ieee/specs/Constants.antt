@@ -1,5 +1,5 @@
 -- The Rust's decimal constants by their bit patterns, as a compiled literal has them; `Decimals` of `Claims` says that each is the nearest
--- to its decimal. Document 01 names them where they are used. Definitions only. Assumes nothing.
+-- to its decimal. Definitions only. Assumes nothing.
 use lib.Ieee.{Float, binary32, binary64, ofBits}
 
 -- 0.02 as an `f32`
@@ -73,3 +73,21 @@ abbrev pub 1e-9 : Float
 -- 1e-12 as an `f64`
 abbrev pub 1e-12 : Float
 1e-12 = ofBits binary64 0x3d71_9799_812d_ea11
+
+-- ---- numbers that a format holds exactly
+-- 0, 0.5, 1 and 2 as an `f32`
+abbrev pub 0f : Float
+0f = ofBits binary32 0
+
+abbrev pub 0·5 : Float
+0·5 = ofBits binary32 0x3f00_0000
+
+abbrev pub 1f : Float
+1f = ofBits binary32 0x3f80_0000
+
+abbrev pub 2f : Float
+2f = ofBits binary32 0x4000_0000
+
+-- 1 as an `f64`
+abbrev pub 1d : Float
+1d = ofBits binary64 0x3ff0_0000_0000_0000

@@ -10,9 +10,9 @@ abbrev pub crossZ : ℤ → ℤ → ℤ → ℤ → ℤ → ℤ → ℤ
 crossZ ox oy ax ay bx by = (ax -ℤ ox) *ℤ (by -ℤ oy) -ℤ (ay -ℤ oy) *ℤ (bx -ℤ ox)
 
 -- The bound of a difference's numerator: 2 ^ 12 in an `f32`, which holds of pictures up to 2048 wide and high, and 2 ^ 26 in an `f64`.
-abbrev pub span : Format → ℕ
-span binary32 = 4096
-span binary64 = 67108864
+abbrev pub exactSpan : Format → ℕ
+exactSpan binary32 = 4096
+exactSpan binary64 = 67108864
 
 -- ---- the square of a distance
 abbrev pub d2 : Format → Float → Float → Float → Float → Float

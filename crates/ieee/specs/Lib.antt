@@ -1,8 +1,7 @@
 pub mod Ops
 pub mod Root
 pub mod Narrow
-pub mod Patterns
-pub mod Val
 pub mod Cross
 pub mod Constants
 pub mod Claims
+pub mod Inner

@@ -1,12 +1,12 @@
 // The pattern of an f64 that is rounded to f32, by whole numbers.
 ghost use mathlib.Core.Path.{_≡_};
 ghost use mathlib.Core.Bool.{true};
-ghost use Prim.Native.Nat.{min, _+_, _-_, _*_, _%_, _^_, _<_, _≤_};
+ghost use Prim.Native.Nat.{_+_, _-_, _*_, _%_, _^_, _<_, _≤_};
 ghost use lib.Ieee as Ieee;
 ghost use lib.Ieee.{binary32, binary64};
 ghost use lib.Ieee.Nearest.{closest};
 ghost use Rattle.ieee.specs.Narrow.{narrow, usual64};
-ghost use Rattle.ieee.specs.Patterns.{mant64, expo64, narrowBits};
+ghost use Rattle.ieee.specs.Inner.{mant64, expo64, narrowBits};
 
 // The digits of a finite f64's pattern, with the leading one.
 fn digits64(b: u64) -> u64

@@ -1,10 +1,10 @@
 // The pattern of an f32's root, by whole numbers.
 ghost use mathlib.Core.Path.{_≡_};
-ghost use Prim.Native.Nat.{min, _+_, _-_, _*_, _/_, _%_, _<_};
+ghost use Prim.Native.Nat.{_+_, _-_, _*_, _/_, _%_, _<_};
 ghost use lib.Ieee as Ieee;
 ghost use lib.Ieee.{binary32};
 ghost use Rattle.ieee.specs.Root.{sqrt, nearRoot};
-ghost use Rattle.ieee.specs.Patterns.{mant, expo};
+ghost use Rattle.ieee.specs.Inner.{mant, expo};
 
 // The digits of a positive f32's pattern, with the leading one.
 fn digits(b: u32) -> u64

@@ -23,11 +23,11 @@ use Rattle.pgm.specs.declared.steps.Reading.{Reading}
 use Rattle.pgm.proofs.Counted.{step-counts}
 use Rattle.pgm.specs.declared.File.{File}
 use Rattle.pgm.specs.declared.File.the-variants.{Refused}
-use Rattle.tray.specs.Input.{headRead, askedTo, checkFileTo, fileTo, FileAt}
+use Rattle.tray.specs.Input.{headRead, askedTo, checkFileTo, fileTo}
 use Rattle.tray.proofs.Headers.{after-letters, head-through, head-more, asked-grows}
 use Rattle.tray.proofs.Readings.{letters-kept, at-two}
 use Rattle.tray.proofs.Inputs.{file-picture}
-use Rattle.input.specs.Input.{readsTo, FileRead, Pictured}
+use Rattle.input.specs.Input.{readsTo, FileRead, FilePictured}
 
 -- the first two places stay where more of them do
 pub stays : (n : ℕ) (l l′ : List ℕ) → 2 ≤ n → take n l′ ≡ take n l → take 2 l′ ≡ take 2 l
@@ -154,7 +154,7 @@ module _ (most : ℕ) where
     answer = e;
   }
 
-  pub pictured : (s : List ℕ) (r : File) → FileRead most s r → Pictured most s r
+  pub pictured : (s : List ℕ) (r : File) → FileRead most s r → FilePictured most s r
   pictured s r f w h at e =
       let p = file-picture most (take (f .count) s) w h at (sym (f .answer) ∙ e) in
       let n : length (take (f .count) s) ≤ length s = simp length-take (omega arith) in

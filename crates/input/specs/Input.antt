@@ -21,5 +21,5 @@ pub record FileRead (most : ℕ) (s : List ℕ) (r : File) : Type 0 where
   pub answer : r ≡ fileTo most (take count s)
 
 -- Where the answer r is a picture, its sides are up to `most` and its pixels stand in s.
-abbrev pub Pictured : ℕ → List ℕ → File → Type 0
-Pictured most s r = (w h at : ℕ) → r ≡ Picture w h at → FileAt most s w h at
+abbrev pub FilePictured : ℕ → List ℕ → File → Type 0
+FilePictured most s r = (w h at : ℕ) → r ≡ Picture w h at → FileAt most s w h at

@@ -9,14 +9,14 @@ ghost use Prim.Native.Nat.{_+_, _*_, _≤_};
 ghost use lib.ListN.{length, take};
 ghost use Rattle.pgm.specs.Form.{hasLetters};
 ghost use Rattle.tray.specs.Input.{headRead, askedTo, fileTo};
-ghost use Rattle.input.specs.Input.{FileRead, Pictured};
+ghost use Rattle.input.specs.Input.{FileRead, FilePictured};
 
 // Reads up to n bytes into the places from at on, and answers how many came. What stands before
 // them stays.
 pub fn read_part(bytes: &mut [u8], at: usize, n: usize) -> usize
     requires { ⌜ at + n ≤ length (now bytes) ⌝ }
-    ensures { λ r. ⌜ r ≤ n ⌝ }
-    ensures { λ _. ⌜ take at (now (bytes .exit)) ≡ take at (now (bytes .entry)) ⌝ }
+    ensures most { λ r. ⌜ r ≤ n ⌝ }
+    ensures bytes { λ _. ⌜ take at (now (bytes .exit)) ≡ take at (now (bytes .entry)) ⌝ }
 {
     let end = at + n;
     io::read_full(STDIN_FILENO, &mut bytes[at..end])
@@ -25,9 +25,9 @@ pub fn read_part(bytes: &mut [u8], at: usize, n: usize) -> usize
 // Reads the header of a file behind its letters, byte by byte until it or the input has ended.
 pub fn read_header(bytes: &mut [u8]) -> Reading
     requires { ⌜ 4096 ≤ length (now bytes) ⌝ }
-    ensures { λ r. ⌜ (2 ≤ r .at) × (r .at ≤ 4096) ⌝ }
-    ensures { λ r. ⌜ r ≡ headRead (take (r .at) (now (bytes .exit))) ⌝ }
-    ensures { λ _. ⌜ take 2 (now (bytes .exit)) ≡ take 2 (now (bytes .entry)) ⌝ }
+    ensures bounds { λ r. ⌜ (2 ≤ r .at) × (r .at ≤ 4096) ⌝ }
+    ensures bytes { λ r. ⌜ r ≡ headRead (take (r .at) (now (bytes .exit))) ⌝ }
+    ensures letters { λ _. ⌜ take 2 (now (bytes .exit)) ≡ take 2 (now (bytes .entry)) ⌝ }
 {
     let mut h = pgm::steps::begin();
     while h.at < 4096 {
@@ -47,10 +47,10 @@ pub fn read_header(bytes: &mut [u8]) -> Reading
 pub fn read_rest(bytes: &mut [u8], most: usize) -> usize
     requires { ⌜ most ≤ 4096 ⌝ }
     requires { ⌜ 4096 + most * most ≤ length (now bytes) ⌝ }
-    ensures { λ r. ⌜ (2 ≤ r) × (r ≤ 4096 + most * most) ⌝ }
-    ensures { λ r. ⌜
+    ensures bounds { λ r. ⌜ (2 ≤ r) × (r ≤ 4096 + most * most) ⌝ }
+    ensures most { λ r. ⌜
         r ≤ headRead (now (bytes .exit)) .at + askedTo most (headRead (now (bytes .exit))) ⌝ }
-    ensures { λ _. ⌜ take 2 (now (bytes .exit)) ≡ take 2 (now (bytes .entry)) ⌝ }
+    ensures letters { λ _. ⌜ take 2 (now (bytes .exit)) ≡ take 2 (now (bytes .entry)) ⌝ }
 {
     let h = read_header(bytes);
     let at = h.at;
@@ -74,8 +74,8 @@ fn find(bytes: &[u8], n: usize, most: usize) -> File
 pub fn read_file(bytes: &mut [u8], most: usize) -> File
     requires { ⌜ most ≤ 4096 ⌝ }
     requires { ⌜ 4096 + most * most ≤ length (now bytes) ⌝ }
-    ensures { λ r. ⌜ FileRead most (now (bytes .exit)) r ⌝ }
-    ensures { λ r. ⌜ Pictured most (now (bytes .exit)) r ⌝ }
+    ensures bytes { λ r. ⌜ FileRead most (now (bytes .exit)) r ⌝ }
+    ensures pictured { λ r. ⌜ FilePictured most (now (bytes .exit)) r ⌝ }
 {
     let n = read_part(bytes, 0, 2);
     if n < 2 {

@@ -1,4 +1,8 @@
--- What the fill of a group keeps (Fill) and what group after group keeps (Outer): at the end every cell has its label. Assumes nothing.
+-- What the fill of a group keeps (Fill) and what group after group keeps (Outer): at the end every cell has its label.
+--     On, Fill, Outer, marked-ink, step-fill, run-fill, pop-fill, shut-fill, linked-done, next-fill, emptied-kept, emptied-safe,
+--     emptied-fill
+--     group after group: outer-begin, outer-skip, outer-mark, outer-end
+-- Assumes nothing.
 use mathlib.Core.Bool.{Bool, cond, false, true}
 use mathlib.Core.List.{List}
 use mathlib.Core.Logic.{_⊎_, inl, inr, ⊎-elim}
@@ -10,13 +14,13 @@ use native.Mathlib.Omega.{arith}
 use lib.ListN.{getD, length, set}
 use lib.Seq.{getD-set-other, getD-set-same}
 use Rattle.labels.proofs.VisitLaws.{marked-in, pop-safe, run-kept, run-safe, safe-begin, step-done, step-kept, step-safe}
-use Rattle.labels.specs.Visits.{Emptied, Flooded, MARK, Run, Safe, Shut, Step, begin, on, pass, pop, push, stop}
+use Rattle.labels.specs.Inner.{Emptied, Flooded, MARK, Run, Safe, Shut, Step, begin, on, pass, pop, push, stop}
 use Rattle.laws.proofs.Bools.{at-or-below, clash, which}
 use Rattle.laws.proofs.Counts.{count-no, count-yes}
 use Rattle.laws.proofs.Writes.{at-set}
 use Rattle.laws.specs.Count.{count}
-use Rattle.regions.proofs.Graph.{first-ink, first-of, label-none, label-same, labelled, leader-le, leader-linked, linked-right}
-use Rattle.regions.specs.Labels.{Grid, Linked, first?, here, label, leader, near, step}
+use Rattle.labels.proofs.Graph.{first-ink, first-of, label-none, label-same, labelled, leader-le, leader-linked, linked-right}
+use Rattle.labels.specs.Labels.{NearGrid, Linked, first?, here, label, leader, near, step}
 
 -- The cell `c` is among the `k` that are on the stack.
 pub On : List ℕ → ℕ → ℕ → Type 0
@@ -36,7 +40,7 @@ pub record Outer (ink : ℕ → Bool) (near : ℕ → ℕ → Bool) (n s v : ℕ
   pub passed : (c : ℕ) → c < s → getD l c 0 ≡ MARK → ⊥
   pub counted : v ≡ count (first? ink near n) s
 
-module _ (ink : ℕ → Bool) (near : ℕ → ℕ → Bool) (n : ℕ) (g : Grid ink near n) where
+module _ (ink : ℕ → Bool) (near : ℕ → ℕ → Bool) (n : ℕ) (g : NearGrid ink near n) where
   pub marked-ink : {o v k : ℕ} {l st : List ℕ} → Fill ink near n o v l st k → (c : ℕ) → getD l c 0 ≡ MARK → ink c ≡ true
   marked-ink {l = l} s c m = ⊎-elim (λ i. i) (λ i. absurd (let z : getD l c 0 ≡ 0 = s .blank c i in omega arith)) (which (ink c))
 

@@ -12,18 +12,16 @@ use lib.Ieee.{low}
 use lib.ListN.{List·getD-eq-default, drop, getD, length, length-drop, length-take, take}
 use lib.Seq.{getD-take}
 use borrow.Author.Tests.{le-ltb, lt-ltb}
-use Rattle.labels.specs.Labelling.{Inked}
-use Rattle.labels.specs.Marks.{Inside, Levelled, below, markAt, rowBelow}
-use Rattle.labels.specs.Visits.{MARK}
+use Rattle.labels.specs.Inner.{Inked, CellInside, Levelled, below, cellMarkAt, rowBelow, MARK}
 use Rattle.laws.proofs.Folds.{fold-ext, fold-suc, getD-written}
 use Rattle.laws.proofs.Planes.{box-ext, box-more, getD-part, part}
 use Rattle.laws.specs.Fold.{bit, fold, sumTo}
 use Rattle.laws.specs.Plane.{Plane, box, boxRow, drawn, plane, rowwise}
 use Rattle.levels.proofs.Hist.{sum-le}
-use Rattle.levels.specs.Level.{cells, inkAt, level}
-use Rattle.levels.specs.Steps.{Picture}
-use Rattle.regions.proofs.Cells.{grid}
-use Rattle.regions.specs.Cells.{cells8, cellsOf, inkCell, inkPixels, span8}
+use Rattle.levels.specs.Level.{inkOf, cells, inkAt, level}
+use Rattle.picture_checks.specs.Picture.{Picture}
+use Rattle.labels.proofs.Near.{grid}
+use Rattle.labels.specs.Cells.{cells8, cellsOf, inkCell, inkPixels, span8}
 
 bit-le : (b : Bool) → bit b ≤ 1
 bit-le true = omega arith
@@ -73,7 +71,7 @@ half : (c i : ℕ) → i < 8 → (8 * c + i) / 16 ≡ c / 2
 half c i l = omega arith
 
 pub inside-cell : {s : List ℕ} {w h lx ly : ℕ} → Picture s w h → (cx cy : ℕ) → 8 * cx < w → 8 * cy < h → lx ≡ span8 w cx → ly ≡ span8 h cy
-    → Inside s w (8 * cx) (8 * cy) lx ly
+    → CellInside s w (8 * cx) (8 * cy) lx ly
 inside-cell {s} {w} {h} {lx} {ly} p cx cy lw lh ex ey = record {
   wide = omega arith;
   high = omega arith;
@@ -85,7 +83,7 @@ inside-cell {s} {w} {h} {lx} {ly} p cx cy lw lh ex ey = record {
 pub cell-ink-is : {s grid : List ℕ} {w h : ℕ} → Levelled s w h grid → (cx cy : ℕ) {t lx ly : ℕ} → 8 * cx < w → 8 * cy < h
     → t ≡ plane (cells w) grid (cx / 2) (cy / 2) → lx ≡ span8 w cx → ly ≡ span8 h cy
     → box _+_ 0 (below (plane w s) t) (8 * cx) (8 * cy) lx ly ≡ inkPixels (plane w s) w h cx cy
-unfolding inkPixels below inkAt
+unfolding inkPixels below inkAt inkOf
 cell-ink-is {s} {grid} {w} {h} held cx cy {t} lw lh et ex ey =
     let p = plane w s in
     let level-t : t ≡ level p w h (cx / 2) (cy / 2) = et ∙ held .held (cx / 2) (cy / 2) (omega arith) (omega arith) in
@@ -95,9 +93,9 @@ cell-ink-is {s} {grid} {w} {h} held cx cy {t} lw lh et ex ey =
     (λ i j li lj. rw (half cx i (omega arith), half cy j (omega arith), level-t)))
 
 -- ---- marks
-pub marks-inked : (p : Plane) (w h : ℕ) (l old : List ℕ) → l ≡ drawn (cells8 w) (cells8 h) (markAt p w h) old
+pub marks-inked : (p : Plane) (w h : ℕ) (l old : List ℕ) → l ≡ drawn (cells8 w) (cells8 h) (cellMarkAt p w h) old
     → Inked (inkCell p w h) (take (cellsOf w h) l)
-unfolding Inked inkCell markAt
+unfolding Inked inkCell cellMarkAt
 marks-inked p w h l old e c = go (decLt c (cellsOf w h))
   where
     n : ℕ
@@ -110,7 +108,7 @@ marks-inked p w h l old e c = go (decLt c (cellsOf w h))
         let t : ltb c (cellsOf w h) ≡ true = lt-ltb c (cellsOf w h) b in
         getD-take (cellsOf w h) l c 0 b
         ∙ ap (λ (k : List ℕ). getD k c 0) e
-        ∙ getD-written (cells8 w * cells8 h) (rowwise (cells8 w) (markAt p w h)) old c 0 b′
+        ∙ getD-written (cells8 w * cells8 h) (rowwise (cells8 w) (cellMarkAt p w h)) old c 0 b′
         ∙ rw t
     go (no b) =
         let t : ltb c (cellsOf w h) ≡ false = le-ltb c (cellsOf w h) (omega arith) in

@@ -1,26 +1,28 @@
--- The labelling, cell after cell (Labelling), and the bounds of labels and of their number. Assumes nothing.
+-- The labelling, cell after cell (Labelling), and the bounds of labels and of their number.
+--     ink-within, Labelling, labelling-begin, labelling-skip, labelling-mark, labelling-end, label-most, groups-most, one-full,
+--     labelling-one
+--     the answers: labels-at, labels-full, answers-given, answers-cleared
+-- Assumes nothing.
 use mathlib.Core.Bool.{Bool, true}
 use mathlib.Core.List.{List, _++_}
 use mathlib.Core.Logic.{⊎-elim}
 use mathlib.Core.Path.{_∙_, _≡_, ap, refl, subst, sym}
-use Prim.Native.Nat.{_+_, _-_, _<_, _≤_, min, ℕ}
+use Prim.Native.Nat.{_+_, _<_, _≤_, min, ℕ}
 use native.Mathlib.Omega.{arith}
 use lib.ListN.{drop, getD, length, length-append, length-drop, replicate, take}
 use lib.Seq.{length-take-le}
 use Rattle.labels.proofs.FillLaws.{Outer, outer-begin, outer-end, outer-mark, outer-skip}
 use Rattle.labels.proofs.VisitLaws.{marked-in}
-use Rattle.labels.specs.Labelling.{Answers, Inked, Labels, One, cleared, filled, given, numbered, short, skipped, stopped}
-use Rattle.labels.specs.Visits.{Flooded, MARK}
+use Rattle.labels.specs.Inner.{Answers, Inked, Labels, One, cleared, filled, given, numbered, short, skipped, stopped, Flooded, MARK}
 use Rattle.laws.proofs.Past.{past-front}
 use Rattle.laws.proofs.Bools.{which}
 use Rattle.laws.proofs.Counts.{count-most, count-step}
 use Rattle.laws.proofs.Folds.{is-tab}
-use Rattle.laws.proofs.Planes.{part}
 use Rattle.laws.specs.Count.{count}
-use Rattle.laws.specs.Lent.{UntouchedPast, zeros}
-use Rattle.regions.proofs.Cells.{grid}
-use Rattle.regions.proofs.Graph.{first-ink, first-leader, label-ink, label-none}
-use Rattle.regions.specs.Labels.{Grid, first?, label, leader, near}
+use Rattle.laws.specs.Lent.{zeros}
+use Rattle.labels.proofs.Near.{grid}
+use Rattle.labels.proofs.Graph.{first-ink, first-leader, label-ink, label-none}
+use Rattle.labels.specs.Labels.{NearGrid, first?, label, leader, near}
 use Rattle.labels.specs.declared.groups.Next.{Next}
 use Rattle.labels.specs.declared.groups.Next.the-variants.{At, Full}
 
@@ -36,7 +38,7 @@ pub record Labelling (w n : ℕ) (l₀ st₀ : List ℕ) (s v : ℕ) (l st : Lis
   pub same-stack : length st ≡ length st₀
 
 module _ (w n : ℕ) (l₀ st₀ : List ℕ) (e : length l₀ ≡ n) where
-  here : (ink : ℕ → Bool) → Inked ink l₀ → Grid ink (near w) n
+  here : (ink : ℕ → Bool) → Inked ink l₀ → NearGrid ink (near w) n
   here ink h = grid ink w n (λ c i. omega (arith, ink-within ink l₀ h c i))
 
   pub labelling-begin : Labelling w n l₀ st₀ 0 0 l₀ st₀
@@ -81,7 +83,7 @@ pub label-most : (ink : ℕ → Bool) (w n : ℕ) → ((c : ℕ) → ink c ≡ t
     → label ink (near w) n c ≤ count (first? ink (near w) n) n
 label-most ink w n h c = ⊎-elim yes′ (λ i. omega (arith, label-none ink (near w) n g c i)) (which (ink c))
   where
-    g : Grid ink (near w) n
+    g : NearGrid ink (near w) n
     g = grid ink w n h
 
     yes′ : ink c ≡ true → label ink (near w) n c ≤ count (first? ink (near w) n) n

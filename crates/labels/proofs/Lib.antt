@@ -1,5 +1,14 @@
+pub mod Graph
+pub mod Near
+pub mod MovedGroups
+pub mod Sizes
+pub mod Order
+pub mod Moving
+pub mod Pictures
+pub mod Labelled
 pub mod VisitLaws
 pub mod Window
 pub mod FillLaws
 pub mod Labellings
 pub mod InkCells
+pub mod Cleared

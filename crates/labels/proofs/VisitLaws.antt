@@ -1,5 +1,12 @@
 -- Laws of marks, of a visit and of visits one after the other: what each keeps (step-, run-), the loop over a row (Row), the loop that
--- empties the stack (Flow), and the answers where the stack is full. Assumes nothing.
+-- empties the stack (Flow), and the answers where the stack is full.
+--     marks: marks-le, marks-set, marked-in, marks-pos
+--     what a visit keeps: safe-begin, down-safe, pop-safe, step-kept, step-done, step-length, step-stack, step-sum, step-safe, run-kept,
+--     run-length, run-sum, run-safe, run-trans, run-map
+--     the loop over a row: Row, row-begin, rowed-end, row-turn
+--     the loop that empties the stack: Flow, flow-turn, flow-begin, flow-less, flow-full, flow-end
+--     a stack that may be too short: full-short, or-at, or-full, fills-yes, fills-no
+-- Assumes nothing.
 use mathlib.Core.Bool.{Bool, false, true}
 use mathlib.Core.List.{List, [], _∷_}
 use mathlib.Core.Logic.{_⊎_, inl, inr, ⊎-elim}
@@ -12,34 +19,10 @@ use lib.Dec.{eqb}
 use lib.ListN.{getD, length, length-set, set}
 use lib.Seq.{getD-set-same}
 use borrow.Author.Tests.{eq-eqb, ne-eqb}
-use Rattle.labels.specs.Marks.{below}
-use Rattle.labels.specs.Visits.{
-  Emptied,
-  Fills,
-  Flooded,
-  InRow,
-  MARK,
-  Or,
-  Rowed,
-  Run,
-  Safe,
-  Shut,
-  Step,
-  at-or,
-  begin,
-  fills,
-  full-or,
-  marks,
-  on,
-  pass,
-  pop,
-  push,
-  stop,
-  stops,
-}
+use Rattle.labels.specs.Inner.{below, Emptied, Fills, Flooded, InRow, MARK, Or, Rowed, Run, Safe, Shut, Step, at-or, begin, fills, full-or, marks, on, pass, pop, push, stop, stops}
 use Rattle.laws.proofs.Bools.{at-or-below, which}
 use Rattle.laws.proofs.Writes.{at-set}
-use Rattle.regions.specs.Labels.{near}
+use Rattle.labels.specs.Labels.{near}
 use Rattle.labels.specs.declared.groups.Depth.{Depth}
 use Rattle.labels.specs.declared.groups.Depth.the-variants.{At, Full}
 

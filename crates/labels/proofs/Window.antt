@@ -11,10 +11,10 @@ use native.Mathlib.Omega.{arith}
 use lib.Arith.{digits-div, digits-mod}
 use lib.ListN.{getD, length}
 use Rattle.labels.proofs.VisitLaws.{marked-in, run-kept, run-length, run-map, run-trans}
-use Rattle.labels.specs.Visits.{InRow, MARK, Run, Shut, stop}
+use Rattle.labels.specs.Inner.{InRow, MARK, Run, Shut, stop}
 use Rattle.laws.proofs.Bools.{at-or-below}
-use Rattle.regions.proofs.Cells.{close-left, close-of, close-right, near-columns, near-of, near-rows}
-use Rattle.regions.specs.Labels.{near}
+use Rattle.labels.proofs.Near.{close-left, close-of, close-right, near-columns, near-of, near-rows}
+use Rattle.labels.specs.Labels.{near}
 
 -- a row of the window lies within the grid
 pub row-within : (g h w x : ℕ) → g < h → x ≤ w → g * w + x ≤ h * w

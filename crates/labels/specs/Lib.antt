@@ -1,3 +1,4 @@
-pub mod Visits
-pub mod Labelling
-pub mod Marks
+pub mod Labels
+pub mod Cells
+pub mod Inner
+pub mod Claims

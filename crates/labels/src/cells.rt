@@ -5,8 +5,8 @@ ghost use lib.Dec.{ltb};
 ghost use lib.ListN.{length};
 ghost use Rattle.laws.specs.Fold.{bit, sumTo};
 ghost use Rattle.laws.specs.Plane.{plane, drawn, box};
-ghost use Rattle.regions.specs.Cells.{cells8, span8, cellsOf, inkPixels};
-ghost use Rattle.labels.specs.Marks.{rowBelow, below, Inside, Levelled, mark, markAt};
+ghost use Rattle.labels.specs.Cells.{cells8, span8, cellsOf, inkPixels};
+ghost use Rattle.labels.specs.Inner.{rowBelow, below, CellInside, Levelled, cellMark, cellMarkAt};
 use crate::groups::MARK;
 use levels::cells::cells_of;
 
@@ -35,7 +35,7 @@ fn row_ink(row: &[u8], t: u8) -> u8
 
 // How many pixels of the part that is lx wide and ly high, from x0 and y0, are below the threshold.
 fn box_ink(s: &[u8], w: usize, x0: usize, y0: usize, lx: usize, ly: usize, t: u8) -> u8
-    requires { ⌜ Inside (now s) w x0 y0 lx ly ⌝ }
+    requires { ⌜ CellInside (now s) w x0 y0 lx ly ⌝ }
     ensures { λ r. ⌜ r ≡ box _+_ 0 (below (plane w (now (s .entry))) t) x0 y0 lx ly ⌝ }
 {
     let mut n: u8 = 0;
@@ -85,7 +85,7 @@ fn cell_ink(s: &[u8], w: usize, h: usize, grid: &[u8], cx: usize, cy: usize) -> 
 }
 
 fn mark_of(n: u8) -> u32
-    ensures { λ r. ⌜ r ≡ mark n ⌝ }
+    ensures { λ r. ⌜ r ≡ cellMark n ⌝ }
 {
     if n < 4 { 0 } else { MARK }
 }
@@ -96,7 +96,7 @@ pub fn mark_cells(s: &[u8], w: usize, h: usize, grid: &[u8], labels: &mut [u32])
     requires { ⌜ cellsOf w h ≤ length (now labels) ⌝ }
     ensures { λ _. ⌜
         now (labels .exit)
-        ≡ drawn (cells8 w) (cells8 h) (markAt (plane w (now (s .entry))) w h)
+        ≡ drawn (cells8 w) (cells8 h) (cellMarkAt (plane w (now (s .entry))) w h)
         (now (labels .entry)) ⌝ }
 {
     let cw = region_cells(w);

@@ -4,11 +4,9 @@
 ghost use mathlib.Core.Path.{_≡_};
 ghost use Prim.Native.Nat.{_+_, _*_, _-_, _<_, _≤_, min};
 ghost use lib.ListN.{length};
-ghost use Rattle.laws.specs.Lent.{zeros};
-ghost use Rattle.regions.specs.Labels.{near};
-ghost use Rattle.labels.specs.Visits.{MARK, Step, Rowed, Neared, Safe, Or, Fills};
-ghost use Rattle.labels.specs.Labelling.{One, Labels, Answers};
-use regions::tally::clear;
+ghost use Rattle.labels.specs.Labels.{near};
+ghost use Rattle.labels.specs.Inner.{MARK, Step, Rowed, Neared, Safe, Or, Fills, One, Labels, Answers};
+use crate::clearing::clear;
 
 pub const MARK: u32 = 4294967295;
 

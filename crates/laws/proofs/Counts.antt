@@ -13,7 +13,7 @@ use native.Mathlib.Decide.{decLt}
 use lib.Dec.{eqb}
 use borrow.Author.Tests.{eq-eqb, ne-eqb}
 use Rattle.laws.specs.Count.{count, least}
-use Rattle.laws.proofs.Bools.{which, clash, at-or-below, both, and-right}
+use Rattle.laws.proofs.Bools.{which, clash, at-or-below, and-right}
 
 -- ---- the first number that meets a test
 module _ (p : ℕ → Bool) where

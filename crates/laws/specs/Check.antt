@@ -1,4 +1,4 @@
--- Checks of a door (document 01's word for a public entry), in the order of its table. Definitions only. Assumes nothing.
+-- Checks of a door, a public entry, in the order in which it makes them. Definitions only. Assumes nothing.
 use mathlib.Core.Bool.{Bool, true, false}
 
 -- What follows where a check passes, else the refusal.

@@ -1,4 +1,4 @@
--- Words of the doors' contracts, as document 01 has them under "Doors and their checks": what a call leaves in a lent list.
+-- Words of the doors' contracts: what a call leaves in a lent list.
 -- Definitions only. Assumes nothing.
 use mathlib.Core.List.{List, _++_}
 use mathlib.Core.Path.{_≡_}

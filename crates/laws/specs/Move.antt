@@ -1,4 +1,4 @@
--- The moves of document 01, "What demand 3 compares", on sides, pixels and cells, boxes and bytes. Definitions only. Assumes nothing.
+-- The moves of rule 39, on sides, pixels and cells, boxes and bytes. Definitions only. Assumes nothing.
 use Prim.Native.Nat.{ℕ, _-_}
 use mathlib.Core.Bool.{Bool, true, false}
 use mathlib.Core.List.{List, []}
@@ -57,6 +57,9 @@ pub record Box : Type 0 where
   pub y0 : ℕ
   pub x1 : ℕ
   pub y1 : ℕ
+
+abbrev pub boxAt : ℕ → ℕ → ℕ → ℕ → Box
+boxAt x0 y0 x1 y1 = record { x0 = x0; y0 = y0; x1 = x1; y1 = y1 }
 
 -- Where a box of a grid of w by h goes: with the squares that it covers.
 unfoldable pub boxOf : Move → ℕ → ℕ → Box → Box

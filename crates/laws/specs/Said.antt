@@ -1,4 +1,4 @@
--- What a call of a door says, in the terms of document 01's table of doors: the number of a refusal, none, or a value. A door, 01's term,
+-- What a call of a door says, in the terms of docs/RULES.md's table of refusals: the number of a refusal, none, or a value. A door
 -- is a public entry: it checks what it is given. Each enum that a door answers has a definition `..Said` of these three cases.
 -- Definitions only. Assumes nothing.
 use Prim.Native.Nat.{ℕ}

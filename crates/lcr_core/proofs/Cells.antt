@@ -5,36 +5,17 @@
 -- Assumes nothing.
 use mathlib.Core.Path.{_≡_, refl, sym, ap, _∙_, subst}
 use mathlib.Core.Bool.{Bool, true, false, not, _&&_, cond}
-use Prim.Native.Nat.{ℕ, zero, suc, _+_, _*_, _-_, _%_, _<_, _≤_, min, max}
+use Prim.Native.Nat.{ℕ, _+_, _*_, _-_, _%_, _<_, _≤_, min}
 use native.Mathlib.Omega.{arith}
-use native.Mathlib.Nat.{mod-eq-of-lt, mod-lt}
-use lib.Dec.{T, leb, ltb, eqb}
-use borrow.Author.Tests.{ltb-true, ltb-false, leb-true, leb-false, lt-ltb, le-ltb, le-leb, lt-leb, eq-eqb, ne-eqb}
-use lib.IntN.{ℤ, pos, negsuc, subℕ}
+use native.Mathlib.Nat.{mod-lt}
+use lib.Dec.{leb, ltb}
+use borrow.Author.Tests.{le-leb, lt-leb, eq-eqb, ne-eqb}
+use lib.IntN.{ℤ}
 use lib.Signed.{nonNeg}
 use mir.Syntax.{w32}
 use mir.Val.{toZ, ofZ}
 use Rattle.lcr_core.specs.Version.{sideOf, quarterOf, positionsOf}
-use Rattle.lcr_core.specs.Border.{
-  InRange,
-  depthOf,
-  shellOf,
-  coordinate,
-  alongOf,
-  isLevel,
-  edgeOf,
-  offsetOf,
-  onEdge,
-  placeOf,
-  pickPlace,
-  outerX,
-  outerY,
-  inward,
-  outerCell,
-  innerCell,
-  cellAt,
-}
-use Rattle.lcr_core.specs.declared.border.Place.{Place}
+use Rattle.lcr_core.specs.Border.{InRange, depthOf, shellOf, coordinate, alongOf, isLevel, edgeOf, offsetOf, onEdge, positionAt, pickPlace, outerX, outerY, inward, outerCell, innerCell}
 use Rattle.lcr_core.specs.declared.border.Place.the-variants.{At, Outside}
 use Rattle.lcr_core.specs.declared.border.Cell.{Cell}
 use Rattle.lcr_core.proofs.Signed.{read, low-range}
@@ -136,20 +117,20 @@ shell-1 s x y dx dy ex ey h = omega arith
 pub shell-2 : (s : ℕ) (x y : ℤ) (dx dy : ℕ) → dx ≡ depthOf s x → dy ≡ depthOf s y → dy ≤ dx → dx ≡ shellOf s x y
 shell-2 s x y dx dy ex ey h = omega arith
 
-pub place-near : (v : ℕ) (x y : ℤ) → shellOf (sideOf v) x y < 2 → Outside ≡ placeOf v x y
-unfolding placeOf pickPlace
+pub place-near : (v : ℕ) (x y : ℤ) → shellOf (sideOf v) x y < 2 → Outside ≡ positionAt v x y
+unfolding positionAt pickPlace
 place-near v x y h = rw (lt-leb 2 (shellOf (sideOf v) x y) h)
 
-pub place-far : (v : ℕ) (x y : ℤ) → 2 ≤ shellOf (sideOf v) x y → 3 < shellOf (sideOf v) x y → Outside ≡ placeOf v x y
-unfolding placeOf pickPlace
+pub place-far : (v : ℕ) (x y : ℤ) → 2 ≤ shellOf (sideOf v) x y → 3 < shellOf (sideOf v) x y → Outside ≡ positionAt v x y
+unfolding positionAt pickPlace
 place-far v x y h k = rw (le-leb 2 (shellOf (sideOf v) x y) h, lt-leb (shellOf (sideOf v) x y) 3 k)
 
 -- the position of a cell of the ring
 unfoldable pub positionOf : ℕ → ℤ → ℤ → ℕ
 positionOf v x y = onEdge (quarterOf v) (edgeOf (sideOf v) x y) (min (alongOf (offsetOf (sideOf v) x y)) (quarterOf v)) % positionsOf v
 
-pub place-in : (v : ℕ) (x y : ℤ) → 2 ≤ shellOf (sideOf v) x y → shellOf (sideOf v) x y ≤ 3 → At (positionOf v x y) ≡ placeOf v x y
-unfolding placeOf pickPlace positionOf
+pub place-in : (v : ℕ) (x y : ℤ) → 2 ≤ shellOf (sideOf v) x y → shellOf (sideOf v) x y ≤ 3 → At (positionOf v x y) ≡ positionAt v x y
+unfolding positionAt pickPlace positionOf
 place-in v x y h k = rw (le-leb 2 (shellOf (sideOf v) x y) h, le-leb (shellOf (sideOf v) x y) 3 k)
 
 pub offset-depth : (s : ℕ) (x y : ℤ) → shellOf s x y ≤ 3 → depthOf s (offsetOf s x y) ≤ 3
@@ -180,7 +161,7 @@ along-asks s x y o side es eo hx hy h =
 
 pub position-is : (v : ℕ) (x y o : ℤ) (r n q e u a : ℕ) → InRange x → InRange y → 2 ≤ shellOf (sideOf v) x y → shellOf (sideOf v) x y ≤ 3
     → n ≡ positionsOf v → q ≡ quarterOf v → e ≡ edgeOf (sideOf v) x y → o ≡ offsetOf (sideOf v) x y
-    → a ≡ alongOf (toZ w32 (ofZ w32 o)) → u ≡ min a q → r ≡ onEdge q e u → At (r % n) ≡ placeOf v x y
+    → a ≡ alongOf (toZ w32 (ofZ w32 o)) → u ≡ min a q → r ≡ onEdge q e u → At (r % n) ≡ positionAt v x y
 unfolding positionOf
 position-is v x y o r n q e u a hx hy h k en eq ee eo ea eu er =
     let s = sideOf v in

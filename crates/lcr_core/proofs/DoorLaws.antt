@@ -5,10 +5,10 @@
 --     shell-at, place-at, edge-at      what a call of the inner function gives the door
 -- Assumes nothing.
 use mathlib.Core.Path.{_≡_, refl, sym, ap, _∙_, subst}
-use mathlib.Core.Bool.{Bool, true, false, not, _&&_}
-use Prim.Native.Nat.{ℕ, zero, suc, _+_, _<_, _≤_}
+use mathlib.Core.Bool.{Bool, true, false}
+use Prim.Native.Nat.{ℕ, _<_, _≤_}
 use native.Mathlib.Omega.{arith}
-use lib.Dec.{T, leb, ltb, leb·suc-suc}
+use lib.Dec.{T, leb, leb·suc-suc}
 use borrow.Author.Tests.{ltb-true, ltb-false, leb-true, lt-ltb, le-ltb}
 use lib.IntN.{ℤ, pos, negsuc}
 use lib.Signed.{ltZ, leZ, mag}
@@ -17,7 +17,7 @@ use mir.Val.{SFits, toZ, ofZ}
 use mir.ValLaws.{toZ-ofZ}
 use Rattle.laws.proofs.Bools.{and-left, and-right}
 use Rattle.lcr_core.specs.Version.{IsVersion, isVersion, versionAnswer, pickVersion, sideOf}
-use Rattle.lcr_core.specs.Border.{InRange, shellOf, edgeOf, offsetOf, placeOf}
+use Rattle.lcr_core.specs.Border.{InRange, shellOf, edgeOf, offsetOf, positionAt}
 use Rattle.lcr_core.proofs.Signed.{read}
 use Rattle.lcr_core.proofs.Cells.{edge-read, offset-read, offset-range}
 use Rattle.lcr_core.specs.declared.doors.EdgeAnswer.{EdgeAnswer}
@@ -100,10 +100,10 @@ shell-at v w x y e hx hy =
     ∙ ap (λ (z : ℤ). shellOf (sideOf v) z (toZ w32 (ofZ w32 y))) (read x hx)
     ∙ ap (λ (z : ℤ). shellOf (sideOf v) x z) (read y hy)
 
-pub place-at : (v w : ℕ) (x y : ℤ) → w ≡ v → InRange x → InRange y → placeOf w (toZ w32 (ofZ w32 x)) (toZ w32 (ofZ w32 y)) ≡ placeOf v x y
+pub place-at : (v w : ℕ) (x y : ℤ) → w ≡ v → InRange x → InRange y → positionAt w (toZ w32 (ofZ w32 x)) (toZ w32 (ofZ w32 y)) ≡ positionAt v x y
 place-at v w x y e hx hy =
-    ap (λ (n : ℕ). placeOf n (toZ w32 (ofZ w32 x)) (toZ w32 (ofZ w32 y))) e ∙ ap (λ (z : ℤ). placeOf v z (toZ w32 (ofZ w32 y))) (read x hx)
-    ∙ ap (λ (z : ℤ). placeOf v x z) (read y hy)
+    ap (λ (n : ℕ). positionAt n (toZ w32 (ofZ w32 x)) (toZ w32 (ofZ w32 y))) e ∙ ap (λ (z : ℤ). positionAt v z (toZ w32 (ofZ w32 y))) (read x hx)
+    ∙ ap (λ (z : ℤ). positionAt v x z) (read y hy)
 
 pub edge-at : (v w e : ℕ) (o x y : ℤ) → w ≡ v → InRange x → InRange y
     → e ≡ edgeOf (sideOf w) (toZ w32 (ofZ w32 x)) (toZ w32 (ofZ w32 y))

@@ -1,29 +1,19 @@
--- Whose position the inner cell of each position is: `inner-owner`, by the edge that the position is on. Assumes nothing.
-use mathlib.Core.Path.{_≡_, refl, sym, ap, _∙_}
+-- Whose position the inner cell of each position is: `inner-owner`, by the edge that the position is on.
+--     inner-owner
+-- Assumes nothing.
+use mathlib.Core.Path.{_≡_, refl, sym, _∙_}
 use mathlib.Core.Logic.{⊎-elim}
 use mathlib.Core.Bool.{Bool, true, false, _||_, cond}
-use Prim.Native.Nat.{ℕ, _+_, _*_, _-_, _%_, _<_, _≤_}
+use Prim.Native.Nat.{ℕ, _+_, _*_, _-_, _<_, _≤_}
 use native.Mathlib.Omega.{arith}
 use native.Mathlib.Nat.{mod-eq-of-lt}
 use lib.Dec.{leb, eqb}
 use borrow.Author.Tests.{leb-true, leb-false, eqb-true, eqb-false}
 use Rattle.laws.proofs.Bools.{either}
 use Rattle.lcr_core.specs.Version.{quarterOf, positionsOf}
-use Rattle.lcr_core.specs.Border.{coordinate, placeOf, outerX, outerY, inward, innerOwner, innerCell}
+use Rattle.lcr_core.specs.Border.{coordinate, positionAt, outerX, outerY, inward, innerOwner, innerCell}
 use Rattle.lcr_core.specs.declared.border.Place.the-variants.{At}
-use Rattle.lcr_core.proofs.Cells.{
-  outer-x-1,
-  outer-x-2,
-  outer-x-3,
-  outer-x-4,
-  outer-y-1,
-  outer-y-2,
-  outer-y-3,
-  outer-y-4,
-  inward-1,
-  inward-2,
-  inward-3,
-}
+use Rattle.lcr_core.proofs.Cells.{outer-x-1, outer-x-2, outer-x-3, outer-x-4, outer-y-1, outer-y-2, outer-y-3, outer-y-4, inward-1, inward-2, inward-3}
 use Rattle.lcr_core.proofs.Positions.{be, right, left, inner-by, inner-top, inner-bottom}
 
 module _ (v p : ℕ) (h : p < positionsOf v) where
@@ -32,7 +22,7 @@ module _ (v p : ℕ) (h : p < positionsOf v) where
 
   -- the inner cell of p is position k's
   abbrev Own : ℕ → Type 0
-  Own k = placeOf v (coordinate (inward q (outerX q p))) (coordinate (inward q (outerY q p))) ≡ At k
+  Own k = positionAt v (coordinate (inward q (outerX q p))) (coordinate (inward q (outerY q p))) ≡ At k
 
   -- ---- at the corners and beside them
 
@@ -161,6 +151,6 @@ module _ (v p : ℕ) (h : p < positionsOf v) where
               let g : 3 * q < p = leb-false p (3 * q) ec in
               on-left (omega (arith, n3 .1)) (omega (arith, n0 .1))
 
-pub inner-owner : (v p : ℕ) → p < positionsOf v → placeOf v (innerCell v p .x) (innerCell v p .y) ≡ At (innerOwner (quarterOf v) p)
+pub inner-owner : (v p : ℕ) → p < positionsOf v → positionAt v (innerCell v p .x) (innerCell v p .y) ≡ At (innerOwner (quarterOf v) p)
 unfolding innerCell
 inner-owner v p h = rw (mod-eq-of-lt h) (owner v p h)

@@ -15,43 +15,10 @@ use borrow.Author.Tests.{ltb-true, ltb-false, leb-true, leb-false, lt-ltb, le-lt
 use lib.IntN.{pos, negsuc}
 use lib.Signed.{nonNeg}
 use Rattle.lcr_core.specs.Version.{sideOf, quarterOf, positionsOf}
-use Rattle.lcr_core.specs.Border.{
-  depthOf,
-  shellOf,
-  coordinate,
-  alongOf,
-  isLevel,
-  edgeOf,
-  offsetOf,
-  onEdge,
-  placeOf,
-  outerX,
-  outerY,
-  inward,
-  outerCell,
-  innerCell,
-}
+use Rattle.lcr_core.specs.Border.{depthOf, shellOf, coordinate, alongOf, isLevel, edgeOf, offsetOf, onEdge, positionAt, outerX, outerY, inward, outerCell}
 use Rattle.lcr_core.specs.declared.border.Place.{Place}
 use Rattle.lcr_core.specs.declared.border.Place.the-variants.{At}
-use Rattle.lcr_core.proofs.Cells.{
-  positionOf,
-  place-in,
-  edge-top,
-  edge-bottom,
-  edge-left,
-  edge-right,
-  outer-x-1,
-  outer-x-2,
-  outer-x-3,
-  outer-x-4,
-  outer-y-1,
-  outer-y-2,
-  outer-y-3,
-  outer-y-4,
-  inward-1,
-  inward-2,
-  inward-3,
-}
+use Rattle.lcr_core.proofs.Cells.{positionOf, place-in, edge-top, edge-bottom, edge-left, edge-right, outer-x-1, outer-x-2, outer-x-3, outer-x-4, outer-y-1, outer-y-2, outer-y-3, outer-y-4}
 
 -- ---- depths
 
@@ -125,7 +92,7 @@ shell-of d e x y m p q h = ap (λ (k : ℕ). max k e) p ∙ ap (λ (k : ℕ). ma
 -- a cell of the ring, m cells out, by its edge and its place there
 place-on : (v x y e t m : ℕ) → 2 ≤ m → m ≤ 3 → max (out v x) (out v y) ≡ m
     → e ≡ edgeOf (sideOf v) (coordinate x) (coordinate y) → coordinate t ≡ offsetOf (sideOf v) (coordinate x) (coordinate y)
-    → t ≤ quarterOf v → placeOf v (coordinate x) (coordinate y) ≡ At (onEdge (quarterOf v) e t % positionsOf v)
+    → t ≤ quarterOf v → positionAt v (coordinate x) (coordinate y) ≡ At (onEdge (quarterOf v) e t % positionsOf v)
 unfolding positionOf
 place-on v x y e t m low high d ee eo ht =
     let a : alongOf (offsetOf (sideOf v) (coordinate x) (coordinate y)) ≡ t = sym (ap alongOf eo) ∙ along-at t in
@@ -146,7 +113,7 @@ at : (v k p : ℕ) → k ≡ p → p < positionsOf v → At (k % positionsOf v) 
 at v k p e h = ap (λ (m : ℕ). At (m % positionsOf v)) e ∙ ap At (mod-eq-of-lt h)
 
 module _ (v i : ℕ) (layer : i ≤ 1) where
-  pub top : (x : ℕ) → i ≤ x → x ≤ quarterOf v - i → placeOf v (coordinate x) (coordinate i) ≡ At x
+  pub top : (x : ℕ) → i ≤ x → x ≤ quarterOf v - i → positionAt v (coordinate x) (coordinate i) ≡ At x
   unfolding onEdge
   top x l h =
       let o = out-low v i layer in
@@ -156,7 +123,7 @@ module _ (v i : ℕ) (layer : i ≤ 1) where
       ∙ at v x x refl (omega arith)
 
   pub bottom : (x : ℕ) → i ≤ x → x ≤ quarterOf v - i
-      → placeOf v (coordinate x) (coordinate (quarterOf v - i)) ≡ At (3 * quarterOf v - x)
+      → positionAt v (coordinate x) (coordinate (quarterOf v - i)) ≡ At (3 * quarterOf v - x)
   unfolding onEdge
   bottom x l h =
       let o = out-high v i layer in
@@ -167,7 +134,7 @@ module _ (v i : ℕ) (layer : i ≤ 1) where
       place-on v x (quarterOf v - i) 2 x (3 - i) (omega arith) (omega arith) (right-most _ _ _ w o) (e .0) (e .1) (omega arith)
       ∙ at v (3 * quarterOf v - x) _ refl (omega arith)
 
-  pub right : (y : ℕ) → i < y → y < quarterOf v - i → placeOf v (coordinate (quarterOf v - i)) (coordinate y) ≡ At (quarterOf v + y)
+  pub right : (y : ℕ) → i < y → y < quarterOf v - i → positionAt v (coordinate (quarterOf v - i)) (coordinate y) ≡ At (quarterOf v + y)
   unfolding onEdge
   right y l h =
       let o = out-high v i layer in
@@ -177,7 +144,7 @@ module _ (v i : ℕ) (layer : i ≤ 1) where
       place-on v (quarterOf v - i) y 1 y (3 - i) (omega arith) (omega arith) (left-most _ _ _ o (omega arith)) (e .0) (e .1) (omega arith)
       ∙ at v (quarterOf v + y) _ refl (omega arith)
 
-  pub left : (y : ℕ) → i < y → y < quarterOf v - i → placeOf v (coordinate i) (coordinate y) ≡ At (4 * quarterOf v - y)
+  pub left : (y : ℕ) → i < y → y < quarterOf v - i → positionAt v (coordinate i) (coordinate y) ≡ At (4 * quarterOf v - y)
   unfolding onEdge
   left y l h =
       let o = out-low v i layer in
@@ -188,10 +155,10 @@ module _ (v i : ℕ) (layer : i ≤ 1) where
 
 -- ---- outer cells
 
-at-places : (v x y x′ y′ : ℕ) (a : Place) → x ≡ x′ → y ≡ y′ → placeOf v (coordinate x) (coordinate y) ≡ a
-    → placeOf v (coordinate x′) (coordinate y′) ≡ a
+at-places : (v x y x′ y′ : ℕ) (a : Place) → x ≡ x′ → y ≡ y′ → positionAt v (coordinate x) (coordinate y) ≡ a
+    → positionAt v (coordinate x′) (coordinate y′) ≡ a
 at-places v x y x′ y′ a ex ey e =
-    sym (ap (λ (k : ℕ). placeOf v (coordinate x) (coordinate k)) ey ∙ ap (λ (k : ℕ). placeOf v (coordinate k) (coordinate y′)) ex) ∙ e
+    sym (ap (λ (k : ℕ). positionAt v (coordinate x) (coordinate k)) ey ∙ ap (λ (k : ℕ). positionAt v (coordinate k) (coordinate y′)) ex) ∙ e
 
 -- an answer at a number that is p
 pub be : (k p : ℕ) (a : Place) → a ≡ At k → k ≡ p → a ≡ At p
@@ -201,11 +168,11 @@ module _ (v p : ℕ) (h : p < positionsOf v) where
   abbrev q : ℕ
   q = quarterOf v
 
-  outer-at : placeOf v (coordinate (outerX (quarterOf v) p)) (coordinate (outerY (quarterOf v) p)) ≡ At p
+  outer-at : positionAt v (coordinate (outerX (quarterOf v) p)) (coordinate (outerY (quarterOf v) p)) ≡ At p
   outer-at = go (leb p q) refl (ltb p (2 * q)) refl (leb p (3 * q)) refl
     where
       go : (a : Bool) → leb p q ≡ a → (b : Bool) → ltb p (2 * q) ≡ b → (c : Bool) → leb p (3 * q) ≡ c
-          → placeOf v (coordinate (outerX q p)) (coordinate (outerY q p)) ≡ At p
+          → positionAt v (coordinate (outerX q p)) (coordinate (outerY q p)) ≡ At p
       go true ea b eb c ec =
           let l : p ≤ q = leb-true p q ea in
           at-places v p 0 _ _ _ (outer-x-1 q p l) (outer-y-1 q p l) (top v 0 (omega arith) p (omega arith) (omega arith))
@@ -245,7 +212,7 @@ module _ (v p : ℕ) (h : p < positionsOf v) where
           at-places v 0 (4 * q - p) _ _ _ (outer-x-4 q p g) (outer-y-4 q p g)
           (be _ p _ (left v 0 (omega arith) (4 * q - p) (omega arith) (omega arith)) (omega arith))
 
-pub position-outer : (v p : ℕ) → p < positionsOf v → placeOf v (outerCell v p .x) (outerCell v p .y) ≡ At p
+pub position-outer : (v p : ℕ) → p < positionsOf v → positionAt v (outerCell v p .x) (outerCell v p .y) ≡ At p
 unfolding outerCell
 position-outer v p h = rw (mod-eq-of-lt h) (outer-at v p h)
 
@@ -257,18 +224,18 @@ module _ (v p : ℕ) (h : p < positionsOf v) where
 
   -- the inner cell's position from its places
   pub inner-by : (x y ox oy k : ℕ) → ox ≡ outerX r p → oy ≡ outerY r p → x ≡ inward r ox → y ≡ inward r oy
-      → placeOf v (coordinate x) (coordinate y) ≡ At k
-      → placeOf v (coordinate (inward r (outerX r p))) (coordinate (inward r (outerY r p))) ≡ At k
+      → positionAt v (coordinate x) (coordinate y) ≡ At k
+      → positionAt v (coordinate (inward r (outerX r p))) (coordinate (inward r (outerY r p))) ≡ At k
   inner-by x y ox oy k ex ey ix iy e =
       at-places v x y _ _ _ (ix ∙ ap (λ (m : ℕ). inward r m) ex) (iy ∙ ap (λ (m : ℕ). inward r m) ey) e
 
   -- on the top edge, with the right edge's first
   pub inner-top : (k : ℕ) → 1 ≤ k → k ≤ r - 1 → (ox oy : ℕ) → ox ≡ outerX r p → oy ≡ outerY r p → k ≡ inward r ox → 1 ≡ inward r oy
-      → placeOf v (coordinate (inward r (outerX r p))) (coordinate (inward r (outerY r p))) ≡ At k
+      → positionAt v (coordinate (inward r (outerX r p))) (coordinate (inward r (outerY r p))) ≡ At k
   inner-top k l m ox oy ex ey ix iy = inner-by k 1 ox oy k ex ey ix iy (top v 1 (omega arith) k l m)
 
   pub inner-bottom : (x k : ℕ) → 1 ≤ x → x ≤ r - 1 → k ≡ 3 * r - x → (ox oy : ℕ) → ox ≡ outerX r p → oy ≡ outerY r p
       → x ≡ inward r ox → r - 1 ≡ inward r oy
-      → placeOf v (coordinate (inward r (outerX r p))) (coordinate (inward r (outerY r p))) ≡ At k
+      → positionAt v (coordinate (inward r (outerX r p))) (coordinate (inward r (outerY r p))) ≡ At k
   inner-bottom x k l m e ox oy ex ey ix iy =
       inner-by x (r - 1) ox oy k ex ey ix iy (be _ k _ (bottom v 1 (omega arith) x l m) (sym e))

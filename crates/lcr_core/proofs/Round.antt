@@ -10,16 +10,7 @@ use native.Mathlib.Decide.{decLt}
 use native.Mathlib.Nat.{mod-add-mod, mod-eq-of-lt, mod-self}
 use native.Mathlib.Omega.{arith}
 use Rattle.lcr_core.specs.Border.{outerX, outerY}
-use Rattle.lcr_core.proofs.Cells.{
-  outer-x-1,
-  outer-x-2,
-  outer-x-3,
-  outer-x-4,
-  outer-y-1,
-  outer-y-2,
-  outer-y-3,
-  outer-y-4,
-}
+use Rattle.lcr_core.proofs.Cells.{outer-x-1, outer-x-2, outer-x-3, outer-x-4, outer-y-1, outer-y-2, outer-y-3, outer-y-4}
 
 -- the outer cell of p is at places x and y
 pub record OuterAt (q p x y : ℕ) : Type 0 where

@@ -6,7 +6,7 @@
 -- Assumes nothing.
 use mathlib.Core.Path.{_≡_, refl, sym, ap, _∙_, subst}
 use mathlib.Core.Bool.{Bool, true, false, _&&_}
-use mathlib.Core.List.{List, [], _∷_}
+use mathlib.Core.List.{List}
 use Prim.Native.Nat.{ℕ, zero, suc, _+_, _*_, _-_, _/_, _%_, _^_, _<_, _≤_}
 use native.Mathlib.Omega.{arith}
 use native.Mathlib.Nat.{mod-lt, mod-eq-of-lt}
@@ -16,6 +16,7 @@ use lib.Arith.{le-of-le-suc-ne}
 use lib.Bits.{bitAnd, and-mask}
 use lib.ListN.{length, getD, set}
 use lib.Seq.{getD-set-same, getD-set-other}
+use Rattle.laws.proofs.Bools.{passed-left, passed-right}
 use Rattle.lcr_core.specs.Ring.{ringBytes}
 use Rattle.lcr_core.specs.Version.{IsVersion, positionsOf}
 use Rattle.lcr_core.specs.Claims.{RowOf}
@@ -34,14 +35,6 @@ allRight : ℕ → Bool
 allRight zero = true
 allRight (suc n) = rowsRight (suc n) && allRight n
 
-left : (a b : Bool) → T (a && b) → T a
-left true b t = tt
-left false b t = t
-
-right : (a b : Bool) → T (a && b) → T b
-right true b t = t
-right false b t = absurd t
-
 -- the one computed test
 tested : T (allRight 64)
 unfolding allRight rowsRight rowStart rowsThrough
@@ -53,10 +46,10 @@ carried zero t v h k = let z : 1 ≤ 0 = omega arith in absurd (none z)
   where
     none : 1 ≤ 0 → ⊥
     none z = omega arith
-carried (suc n) t v h k = go (eqb v (suc n)) refl (λ less. carried n (right (rowsRight (suc n)) (allRight n) t) v h less)
+carried (suc n) t v h k = go (eqb v (suc n)) refl (λ less. carried n (passed-right (rowsRight (suc n)) (allRight n) t) v h less)
   where
     go : (b : Bool) → eqb v (suc n) ≡ b → (v ≤ n → T (rowsRight v)) → T (rowsRight v)
-    go true e further = subst (λ (m : ℕ). T (rowsRight m)) (sym (eqb-true v (suc n) e)) (left (rowsRight (suc n)) (allRight n) t)
+    go true e further = subst (λ (m : ℕ). T (rowsRight m)) (sym (eqb-true v (suc n) e)) (passed-left (rowsRight (suc n)) (allRight n) t)
     go false e further = further (le-of-le-suc-ne k (eqb-false v (suc n) e))
 
 rows : (v : ℕ) → IsVersion v → T (rowsRight v)
@@ -74,15 +67,15 @@ bits v = eqb (8 * rowLength v) (positionsOf v)
 
 pub row-start : (v : ℕ) → IsVersion v → rowStart v ≡ (v - 1) * (v + 11)
 unfolding rowsRight starts ends bits
-row-start v h = eqb→eq (rowStart v) ((v - 1) * (v + 11)) (left (starts v) (ends v && bits v) (rows v h))
+row-start v h = eqb→eq (rowStart v) ((v - 1) * (v + 11)) (passed-left (starts v) (ends v && bits v) (rows v h))
 
 pub row-end : (v : ℕ) → IsVersion v → rowStart v + rowLength v ≤ 4864
 unfolding rowsRight starts ends bits
-row-end v h = leb→le (rowStart v + rowLength v) 4864 (left (ends v) (bits v) (right (starts v) (ends v && bits v) (rows v h)))
+row-end v h = leb→le (rowStart v + rowLength v) 4864 (passed-left (ends v) (bits v) (passed-right (starts v) (ends v && bits v) (rows v h)))
 
 pub row-bits : (v : ℕ) → IsVersion v → 8 * rowLength v ≡ positionsOf v
 unfolding rowsRight starts ends bits
-row-bits v h = eqb→eq (8 * rowLength v) (positionsOf v) (right (ends v) (bits v) (right (starts v) (ends v && bits v) (rows v h)))
+row-bits v h = eqb→eq (8 * rowLength v) (positionsOf v) (passed-right (ends v) (bits v) (passed-right (starts v) (ends v && bits v) (rows v h)))
 
 pub row-of : (v : ℕ) → IsVersion v → RowOf v
 row-of v h = record { within = let z = row-end v h in omega (arith, table-length); bits = row-bits v h }

@@ -1,15 +1,19 @@
 -- Outer cells are the border of the outer square: each lies on it (`on-square`), each cell of it is one (`from-square`), and no two
--- positions have one (`outer-once`). Assumes nothing.
+-- positions have one (`outer-once`).
+--     each lies on the border: on-square
+--     each cell of the border is one: from-square
+--     no two positions have one: outer-once
+-- Assumes nothing.
 use mathlib.Core.Path.{_≡_, refl, sym, ap, _∙_}
 use mathlib.Core.Bool.{Bool, true, false, _||_}
-use Prim.Native.Nat.{ℕ, _+_, _*_, _-_, _%_, _<_, _≤_}
+use Prim.Native.Nat.{ℕ, _+_, _*_, _-_, _<_, _≤_}
 use native.Mathlib.Omega.{arith}
 use native.Mathlib.Nat.{mod-eq-of-lt}
-use lib.Dec.{leb, ltb, eqb}
+use lib.Dec.{leb, eqb}
 use borrow.Author.Tests.{leb-true, leb-false, eqb-true, eqb-false, eq-eqb}
 use Rattle.laws.proofs.Bools.{or-left, or-right}
 use Rattle.lcr_core.specs.Version.{quarterOf, positionsOf}
-use Rattle.lcr_core.specs.Border.{placeOf, outerX, outerY, outerCell, cellAt}
+use Rattle.lcr_core.specs.Border.{positionAt, outerX, outerY, outerCell, cellAt}
 use Rattle.lcr_core.specs.Claims.{OnSquare}
 use Rattle.lcr_core.specs.declared.border.Cell.{Cell}
 use Rattle.lcr_core.specs.declared.border.Place.{Place}
@@ -133,5 +137,5 @@ from-square v cell s = go (eqb y 0) refl (eqb x (quarterOf v)) refl (eqb y (quar
 pub outer-once : (v p r : ℕ) → p < positionsOf v → r < positionsOf v → outerCell v p ≡ outerCell v r → p ≡ r
 outer-once v p r hp hr e =
     let z : _≡_ {A = Place} (At p) (At r) =
-    sym (position-outer v p hp) ∙ ap (λ (c : Cell). placeOf v (c .x) (c .y)) e ∙ position-outer v r hr in
+    sym (position-outer v p hp) ∙ ap (λ (c : Cell). positionAt v (c .x) (c .y)) e ∙ position-outer v r hr in
     cc

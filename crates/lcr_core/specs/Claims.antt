@@ -1,7 +1,6 @@
 -- Statements about the ring's cells and its table, for every version. Statements only. Assumes nothing.
 use mathlib.Core.Path.{_≡_}
 use mathlib.Core.Bool.{true, _||_}
-use mathlib.Core.List.{List}
 use Prim.Native.Nat.{ℕ, _+_, _*_, _≤_, _<_}
 use lib.Dec.{eqb}
 use lib.ListN.{length}
@@ -9,7 +8,7 @@ use Rattle.lcr_core.specs.Version.{IsVersion, quarterOf, positionsOf, ve
 use Rattle.lcr_core.specs.declared.version.Following.the-variants.{Next, End}
 use Rattle.lcr_core.specs.Ring.{ringBytes}
 use Rattle.lcr_core.specs.Mark.{rowStart, rowLength}
-use Rattle.lcr_core.specs.Border.{placeOf, outerCell, innerCell, innerOwner, cellAt}
+use Rattle.lcr_core.specs.Border.{positionAt, outerCell, innerCell, innerOwner, cellAt}
 use Rattle.lcr_core.specs.declared.border.Cell.{Cell}
 use Rattle.lcr_core.specs.declared.border.Place.the-variants.{At}
 
@@ -37,11 +36,11 @@ pub record OnSquare (v : ℕ) (cell : Cell) : Type 0 where
 -- The cells round the ring of version v: a position is the position of its outer cell; outer cells are the border of the outer square, all
 -- of it, each once; and the inner cell of p belongs to `innerOwner p`, which is p but at the corners and beside them
 pub record RoundOf (v : ℕ) : Type 0 where
-  pub back : (p : ℕ) → p < positionsOf v → placeOf v (outerCell v p .x) (outerCell v p .y) ≡ At p
+  pub back : (p : ℕ) → p < positionsOf v → positionAt v (outerCell v p .x) (outerCell v p .y) ≡ At p
   pub border : (p : ℕ) → p < positionsOf v → OnSquare v (outerCell v p)
   pub all : (cell : Cell) → OnSquare v cell → (p : ℕ) × (p < positionsOf v) × (outerCell v p ≡ cell)
   pub once : (p r : ℕ) → p < positionsOf v → r < positionsOf v → outerCell v p ≡ outerCell v r → p ≡ r
-  pub inner : (p : ℕ) → p < positionsOf v → placeOf v (innerCell v p .x) (innerCell v p .y) ≡ At (innerOwner (quarterOf v) p)
+  pub inner : (p : ℕ) → p < positionsOf v → positionAt v (innerCell v p .x) (innerCell v p .y) ≡ At (innerOwner (quarterOf v) p)
 
 unfoldable pub CellsRound : Type 0
 CellsRound = (v : ℕ) → IsVersion v → RoundOf v

@@ -4,16 +4,7 @@ ghost use Prim.Native.Nat.{_<_, _≤_, _+_, _/_};
 ghost use lib.ListN.{length};
 ghost use Rattle.lcr_core.specs.Version.{sideOf, positionsOf, quarterOf, IsVersion};
 ghost use Rattle.lcr_core.specs.Mark.{mark, rowStart, bitAt, RowMarks, AllMarks};
-ghost use Rattle.lcr_core.specs.Border.{
-  InRange,
-  shellOf,
-  edgeOf,
-  offsetOf,
-  placeOf,
-  outerCell,
-  innerCell,
-  isTwoDeep,
-};
+ghost use Rattle.lcr_core.specs.Border.{InRange, shellOf, edgeOf, offsetOf, positionAt, outerCell, innerCell, isTwoDeep};
 use crate::border_seq::RING;
 use crate::places::along;
 use crate::places::clamped;
@@ -122,8 +113,8 @@ pub(crate) fn shell(x: i32, y: i32, version: Version) -> usize
 pub(crate) fn edge_and_offset(x: i32, y: i32, version: Version) -> EdgeOffset
     requires { ⌜ InRange x ⌝ }
     requires { ⌜ InRange y ⌝ }
-    ensures { λ r. ⌜ r .edge ≡ edgeOf (sideOf (version .0)) x y ⌝ }
-    ensures { λ r. ⌜ r .offset ≡ offsetOf (sideOf (version .0)) x y ⌝ }
+    ensures edge { λ r. ⌜ r .edge ≡ edgeOf (sideOf (version .0)) x y ⌝ }
+    ensures offset { λ r. ⌜ r .offset ≡ offsetOf (sideOf (version .0)) x y ⌝ }
 {
     let side = version.side() as usize;
     let dx = depth(x, side);
@@ -151,7 +142,7 @@ pub fn quarter(version: Version) -> usize
 pub fn position(x: i32, y: i32, version: Version) -> Place
     requires { ⌜ InRange x ⌝ }
     requires { ⌜ InRange y ⌝ }
-    ensures { λ r. ⌜ r ≡ placeOf (version .0) x y ⌝ }
+    ensures { λ r. ⌜ r ≡ positionAt (version .0) x y ⌝ }
 {
     let d = shell(x, y, version);
     if d < 2 {

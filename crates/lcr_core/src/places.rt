@@ -5,16 +5,7 @@ ghost use mathlib.Core.Bool.{not, _&&_};
 ghost use lib.Dec.{leb, ltb};
 ghost use Prim.Native.Nat.{_<_, _≤_, _+_, _*_, min};
 ghost use lib.Signed.{nonNeg};
-ghost use Rattle.lcr_core.specs.Border.{
-  InRange,
-  depthOf,
-  coordinate,
-  alongOf,
-  onEdge,
-  outerX,
-  outerY,
-  inward,
-};
+ghost use Rattle.lcr_core.specs.Border.{InRange, depthOf, coordinate, alongOf, onEdge, outerX, outerY, inward};
 
 // Whether a coordinate is below 0.
 pub(crate) fn is_negative(c: i32) -> bool
@@ -101,7 +92,7 @@ pub(crate) fn clamped(u: usize, q: usize) -> usize
 pub(crate) fn outer_x(q: usize, p: usize) -> usize
     requires { ⌜ q < 4096 ⌝ }
     ensures within { λ r. ⌜ r ≤ q ⌝ }
-    ensures { λ r. ⌜ r ≡ outerX q p ⌝ }
+    ensures answer { λ r. ⌜ r ≡ outerX q p ⌝ }
 {
     if p <= q {
         return p;
@@ -119,7 +110,7 @@ pub(crate) fn outer_y(q: usize, p: usize) -> usize
     requires { ⌜ q < 4096 ⌝ }
     requires { ⌜ p < 4 * q ⌝ }
     ensures within { λ r. ⌜ r ≤ q ⌝ }
-    ensures { λ r. ⌜ r ≡ outerY q p ⌝ }
+    ensures answer { λ r. ⌜ r ≡ outerY q p ⌝ }
 {
     if p <= q {
         return 0;
@@ -138,7 +129,7 @@ pub(crate) fn stepped(q: usize, k: usize) -> usize
     requires { ⌜ 1 < q ⌝ }
     requires { ⌜ k ≤ q ⌝ }
     ensures within { λ r. ⌜ r ≤ q ⌝ }
-    ensures { λ r. ⌜ r ≡ inward q k ⌝ }
+    ensures answer { λ r. ⌜ r ≡ inward q k ⌝ }
 {
     if k == 0 {
         return 1;

@@ -16,11 +16,11 @@ use borrow.Author.Tests.{lt-ltb, le-ltb}
 use Rattle.laws.proofs.Steps.{on, done, from-zero}
 use Rattle.ieee.specs.Root.{sqrt}
 use Rattle.ieee.specs.Narrow.{narrow}
-use Rattle.math.specs.Lists.{at}
+use Rattle.math.specs.Lists.{numberAt}
 use Rattle.math.specs.Elimination.{Outcome, forwardOn, backOn}
-use Rattle.fit.specs.F32.{_⊖_, _⊗_, _⊘_, whole, 1f, xOf, yOf}
-use Rattle.lens.specs.Bow.{0d, 1d, inlierOf, rowOf, sampleOf, normalOn, normalOf, systemOf, unknowns, solvedOf}
-use Rattle.lens.specs.Bow.{restOf, squareIn, rssOn, rssOf, positiveOf, firstFit, bowAt, bowBy, bowOf, twoFits}
+use Rattle.fit.specs.F32.{_⊖_, _⊗_, _⊘_, wholeFloat, xOf, yOf}
+use Rattle.ieee.specs.Constants.{1f, 1d}
+use Rattle.lens.specs.Bow.{0d, inlierOf, rowAdded, sampleOf, normalOn, normalOf, systemOf, unknowns, solvedOf, restOf, squareIn, rssOn, rssOf, positiveOf, firstFit, bowAt, bowBy, bowOf, twoFits}
 use Rattle.lens.specs.declared.bow.Bow.{Bow}
 use Rattle.lens.specs.declared.bow.Bow.the-variants.{Fit, NoFit}
 use Rattle.lens.specs.declared.bow.Normal.{Normal}
@@ -32,23 +32,23 @@ module _ (prev : Bow) (t o : Float) (a : Normal) (b : Bool) (is : b ≡ inlierOf
   abbrev g : Float
   g = t ⊗ (1f ⊖ t)
 
-  sample-by : (c : Bool) → b ≡ c → cond c (rowOf a t g o) a ≡ sampleOf prev t o a
+  sample-by : (c : Bool) → b ≡ c → cond c (rowAdded a t g o) a ≡ sampleOf prev t o a
   unfolding sampleOf
-  sample-by c h = ap (λ (c : Bool). cond c (rowOf a t g o) a) (sym h ∙ is)
+  sample-by c h = ap (λ (c : Bool). cond c (rowAdded a t g o) a) (sym h ∙ is)
 
-  pub sample-in : (r : Normal) (t′ g′ o′ : Float) → b ≡ true → t′ ≡ t → g′ ≡ g → o′ ≡ o → r ≡ rowOf a t′ g′ o′ → r ≡ sampleOf prev t o a
+  pub sample-in : (r : Normal) (t′ g′ o′ : Float) → b ≡ true → t′ ≡ t → g′ ≡ g → o′ ≡ o → r ≡ rowAdded a t′ g′ o′ → r ≡ sampleOf prev t o a
   sample-in r t′ g′ o′ h et eg eo q =
       q
-      ∙ ap (λ (t : Float). rowOf a t g′ o′) et
-      ∙ ap (λ (g : Float). rowOf a t g o′) eg
-      ∙ ap (rowOf a t g) eo
+      ∙ ap (λ (t : Float). rowAdded a t g′ o′) et
+      ∙ ap (λ (g : Float). rowAdded a t g o′) eg
+      ∙ ap (rowAdded a t g) eo
       ∙ sample-by true h
 
   pub sample-out : b ≡ false → a ≡ sampleOf prev t o a
   sample-out h = sample-by false h
 
-pub row-many : (a r : Normal) (t g o : Float) → r ≡ rowOf a t g o → r .n ≡ a .n + 1
-unfolding rowOf
+pub row-many : (a r : Normal) (t g o : Float) → r ≡ rowAdded a t g o → r .n ≡ a .n + 1
+unfolding rowAdded
 row-many a r t g o q = ap (λ (r : Normal). r .n) q
 
 module _ (s : List Float) (prev : Bow) where
@@ -91,7 +91,7 @@ module _ (s : List Float) (all : Bool) (f0 f1 f2 : Float) where
 -- ---- three unknowns
 module _ (a : Normal) (v0 v1 v2 : Float) (r : Outcome) (is : r ≡ forwardOn 3 3 0 (systemOf a v0 v1 v2)) where
   abbrev three : List Float → Three
-  three x = Solved (at x 0) (at x 1) (at x 2)
+  three x = Solved (numberAt x 0) (numberAt x 1) (numberAt x 2)
 
   abbrev left : List Float
   left = backOn (r .left) 3 3 (0d ∷ 0d ∷ 0d ∷ [])
@@ -146,7 +146,7 @@ module _ (s : List Float) (prev : Bow) (a : Normal) (is : a ≡ normalOf s prev)
 
 pub bow-at : (s : List Float) (prev : Bow) (n : ℕ) (x y z i f0 f1 f2 w m p e : Float) (b : Bool)
     → f0 ≡ narrow x → f1 ≡ narrow y → f2 ≡ narrow z → b ≡ firstFit prev → w ≡ rssOf s b f0 f1 f2 → p ≡ positiveOf i → m ≡ narrow p
-    → e ≡ sqrt binary32 (w ⊘ whole (n - 3) ⊗ m) → Fit f0 f1 f2 e ≡ bowAt s prev n (narrow x) (narrow y) (narrow z) i
+    → e ≡ sqrt binary32 (w ⊘ wholeFloat (n - 3) ⊗ m) → Fit f0 f1 f2 e ≡ bowAt s prev n (narrow x) (narrow y) (narrow z) i
 bow-at s prev n x y z i f0 f1 f2 w m p e b ex ey ez eb ew ep em ee = cc
 
 -- ---- two fits

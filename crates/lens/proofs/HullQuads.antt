@@ -4,16 +4,16 @@
 --   hull-part, hull-past   the beginning of the list that the hull was put into, and its rest
 --   quad-values            a quad is the quad of its numbers
 use mathlib.Core.Path.{_≡_, refl, sym, ap, _∙_}
-use mathlib.Core.Bool.{Bool, true, false}
-use mathlib.Core.List.{List, [], _∷_, _++_}
-use Prim.Native.Nat.{ℕ, zero, suc, _+_, _-_, _*_, _≤_}
+use mathlib.Core.List.{List}
+use Prim.Native.Nat.{ℕ, _*_, _≤_}
 use native.Mathlib.Omega.{arith}
 use lib.ListN.{length, take, drop}
 use lib.Seq.{take-at}
 use lib.Ieee.{Float}
+use Rattle.hull.proofs.Walks.{points-long, walk-few}
 use Rattle.whole.specs.Hull.{range}
-use Rattle.whole.specs.Wrap.{Tests, nxt, wlk, wrap, lst}
-use Rattle.hull.specs.Points.{many, pointsAt, xAt, yAt}
+use Rattle.whole.specs.Walk.{hullWith, lowestWith}
+use Rattle.hull.specs.Points.{many}
 use Rattle.hull.specs.Hull.{hullTests, hullOf, hullFloats}
 use Rattle.hull.specs.Quad.{valuesOf, quadFloats}
 use Rattle.hull.specs.declared.points.Corners.{Corners}
@@ -23,24 +23,9 @@ use Rattle.laws.specs.Lent.{UntouchedPast, laid}
 use Rattle.lens.specs.Estimate.{quadFrom, hullQuad}
 
 -- ---- how many vertices
-walk-few : (t : Tests) (n s d c : ℕ) → length (wlk t n s d c) ≤ d
-unfolding wlk
-walk-few t n s zero c = omega arith
-walk-few t n s (suc d) c = go (t .eq (nxt t n c) s) (walk-few t n s d (nxt t n c))
-  where
-    go : (b : Bool) → length (wlk t n s d (nxt t n c)) ≤ d
-        → length (c ∷ elim b [ true ↦ [] | false ↦ wlk t n s d (nxt t n c) ]) ≤ suc d
-    go true h = omega arith
-    go false h = omega arith
-
 pub hull-few : (p : List Float) → length (hullOf p (many p)) ≤ many p
-unfolding hullOf wrap
-hull-few p = walk-few (hullTests p) (many p) (lst (hullTests p) 0 (range 0 (many p))) (many p) (lst (hullTests p) 0 (range 0 (many p)))
-
-points-long : (p : List Float) (is : List ℕ) → length (pointsAt p is) ≡ 2 * length is
-unfolding pointsAt
-points-long p [] = refl
-points-long p (i ∷ is) = let z = points-long p is in omega arith
+unfolding hullOf hullWith
+hull-few p = walk-few (hullTests p) (many p) (lowestWith (hullTests p) 0 (range 0 (many p))) (many p) (lowestWith (hullTests p) 0 (range 0 (many p)))
 
 pub hull-long : (p : List Float) → length (hullFloats p) ≡ 2 * length (hullOf p (many p))
 hull-long p = points-long p (hullOf p (many p))

@@ -1,17 +1,18 @@
--- The bow c0 + c1·t + a·t·(1 − t) that fits samples t, o best, as ring.rs has it in `bow_fit` for document 01's "Line, crossing, lens".
+-- The bow c0 + c1·t + a·t·(1 − t) that fits samples t, o best, as ring.rs has it in `bow_fit` for rules 21 to 25.
 -- Definitions only. Assumes nothing.
 use Prim.Native.Nat.{ℕ, zero, suc, _+_, _-_}
 use mathlib.Core.Bool.{Bool, true, false, cond, not}
 use mathlib.Core.List.{List, [], _∷_}
 use lib.Dec.{ltb}
 use lib.Ieee.{Float, binary32, binary64, add, mul, lt, le, ofBits}
+use Rattle.ieee.specs.Constants.{0f, 1d, 1f, 2f}
 use Rattle.ieee.specs.Root.{sqrt}
 use Rattle.ieee.specs.Narrow.{narrow}
 use Rattle.ieee.specs.Ops.{abs}
-use Rattle.math.specs.Lists.{at}
+use Rattle.math.specs.Lists.{numberAt}
 use Rattle.math.specs.Elimination.{System, sys, Outcome, forwardOn, backOn}
-use Rattle.hull.specs.Points.{0f, many}
-use Rattle.fit.specs.F32.{_⊕_, _⊖_, _⊗_, _⊘_, whole, 1f, 2f, xOf, yOf}
+use Rattle.hull.specs.Points.{many}
+use Rattle.fit.specs.F32.{_⊕_, _⊖_, _⊗_, _⊘_, wholeFloat, xOf, yOf}
 use Rattle.lens.specs.declared.bow.Bow.{Bow}
 use Rattle.lens.specs.declared.bow.Bow.the-variants.{Fit, NoFit}
 use Rattle.lens.specs.declared.bow.Normal.{Normal}
@@ -21,9 +22,6 @@ use Rattle.lens.specs.declared.bow.Three.the-variants.{Solved, Singular}
 -- 0 and 1 as f64; f32 numbers are f64 numbers as they are.
 abbrev pub 0d : Float
 0d = ofBits binary64 0
-
-abbrev pub 1d : Float
-1d = ofBits binary64 0x3ff0_0000_0000_0000
 
 -- ---- the normal equations
 -- A sample counts where it is not more than 2 off the bow before; without one all count. Here a·(t·(1 − t)) has t·(1 − t) = g rounded
@@ -40,8 +38,8 @@ abbrev pub times : Float → Float → Float
 times x y = mul binary64 x y
 
 -- The sums with one more row 1, t, g and its right side o.
-unfoldable pub rowOf : Normal → Float → Float → Float → Normal
-rowOf a t g o = record {
+unfoldable pub rowAdded : Normal → Float → Float → Float → Normal
+rowAdded a t g o = record {
   n = a .n + 1;
   one = plus (a .one) 1d;
   t = plus (a .t) t;
@@ -56,7 +54,7 @@ rowOf a t g o = record {
 
 -- The sums with a sample, where it counts.
 unfoldable pub sampleOf : Bow → Float → Float → Normal → Normal
-sampleOf prev t o a = cond (inlierOf prev t o (t ⊗ (1f ⊖ t))) (rowOf a t (t ⊗ (1f ⊖ t)) o) a
+sampleOf prev t o a = cond (inlierOf prev t o (t ⊗ (1f ⊖ t))) (rowAdded a t (t ⊗ (1f ⊖ t)) o) a
 
 -- The sums with d samples from k on.
 unfoldable pub normalOn : List Float → Bow → ℕ → ℕ → Normal → Normal
@@ -80,7 +78,7 @@ systemOf a v0 v1 v2 =
 abbrev pub unknowns : Outcome → Three
 unknowns r =
     let x = backOn (r .left) 3 3 (0d ∷ 0d ∷ 0d ∷ []) in
-    cond (r .ok) (Solved (at x 0) (at x 1) (at x 2)) Singular
+    cond (r .ok) (Solved (numberAt x 0) (numberAt x 1) (numberAt x 2)) Singular
 
 -- The unknowns of three equations, by `solve`.
 unfoldable pub solvedOf : Normal → Float → Float → Float → Three
@@ -117,7 +115,7 @@ firstFit NoFit = true
 -- last entry i of the inverse.
 abbrev pub bowAt : List Float → Bow → ℕ → Float → Float → Float → Float → Bow
 bowAt s prev n f0 f1 f2 i =
-    Fit f0 f1 f2 (sqrt binary32 (rssOf s (firstFit prev) f0 f1 f2 ⊘ whole (n - 3) ⊗ narrow (positiveOf i)))
+    Fit f0 f1 f2 (sqrt binary32 (rssOf s (firstFit prev) f0 f1 f2 ⊘ wholeFloat (n - 3) ⊗ narrow (positiveOf i)))
 
 -- The bow by the unknowns and by the inverse's last column, each rounded to f32; none where one is none.
 unfoldable pub bowBy : List Float → Bow → ℕ → Three → Three → Bow

@@ -1,19 +1,18 @@
--- The lens that a ring's four edges tell of, in two passes, as document 01 has it under "Line, crossing, lens" and ring.rs in
+-- The lens that a ring's four edges tell of, in two passes, by rules 21 to 25 and ring.rs in
 -- `estimate_lens`. Definitions only. Assumes nothing.
 use mathlib.Core.Bool.{Bool, cond, not, _&&_, _||_}
 use mathlib.Core.List.{List, [], _∷_}
 use lib.Ieee.{Float, lt, eq}
 use Rattle.ieee.specs.Ops.{abs, max, finite}
-use Rattle.ieee.specs.Constants.{0·004}
-use Rattle.math.specs.Lists.{at}
-use Rattle.hull.specs.Points.{0f}
+use Rattle.ieee.specs.Constants.{0f, 0·004, 1f}
+use Rattle.math.specs.Lists.{numberAt}
 use Rattle.hull.specs.Hull.{hullFloats}
 use Rattle.hull.specs.Quad.{quadFloats}
 use Rattle.hull.specs.declared.points.Point.{Point}
 use Rattle.hull.specs.declared.points.Quad.{Quad}
 use Rattle.hull.specs.declared.points.Corners.{Corners}
 use Rattle.hull.specs.declared.points.Corners.the-variants.{Found, NoQuad}
-use Rattle.fit.specs.F32.{_⊕_, _⊖_, _⊗_, _⊘_, 0·25, 1f, 3f}
+use Rattle.fit.specs.F32.{_⊕_, _⊖_, _⊗_, _⊘_, 0·25, 3f}
 use Rattle.fit.specs.Line.{pointOf}
 use Rattle.fit.specs.Corner.{d2Of}
 use Rattle.lens.specs.Straight.{straightOf}
@@ -51,19 +50,19 @@ quadMeasures s q m =
 abbrev pub weight : Slope → Float
 weight f = 1f ⊘ (f .se ⊗ f .se)
 
-abbrev pub share : Slope → Float
-share f = f .k ⊘ (f .se ⊗ f .se)
+abbrev pub weightShare : Slope → Float
+weightShare f = f .k ⊘ (f .se ⊗ f .se)
 
 -- The sums of both, from 0, in the edges' order.
 abbrev pub weights : Slopes → Float
 weights t = 0f ⊕ weight (t .a) ⊕ weight (t .b) ⊕ weight (t .c) ⊕ weight (t .d)
 
 abbrev pub shares : Slopes → Float
-shares t = 0f ⊕ share (t .a) ⊕ share (t .b) ⊕ share (t .c) ⊕ share (t .d)
+shares t = 0f ⊕ weightShare (t .a) ⊕ weightShare (t .b) ⊕ weightShare (t .c) ⊕ weightShare (t .d)
 
 -- The weighted mean κ.
-abbrev pub meanOf : Slopes → Float
-meanOf t = shares t ⊘ weights t
+abbrev pub meanSlope : Slopes → Float
+meanSlope t = shares t ⊘ weights t
 
 -- An edge agrees where its κ is not more than three of its standard errors and a quarter of the total off the mean; a NaN is not more.
 unfoldable pub agrees : Float → Float → Slope → Bool
@@ -75,34 +74,34 @@ allAgree step total t =
     agrees step total (t .a) && (agrees step total (t .b) && (agrees step total (t .c) && agrees step total (t .d)))
 
 -- The greatest of a reach and the corners' squared distances from the centre.
-unfoldable pub reachOf : Quad → Point → Float → Float
-reachOf q m reach =
+unfoldable pub cornerReach : Quad → Point → Float → Float
+cornerReach q m reach =
     max (max (max (max reach (d2Of (q .a .x) (q .a .y) m)) (d2Of (q .b .x) (q .b .y) m)) (d2Of (q .c .x) (q .c .y) m))
     (d2Of (q .d .x) (q .d .y) m)
 
 -- ---- a pass
 -- κ with the mean added, or none where the weights are 0 or not finite, or an edge disagrees. Agreement is by the total |κ + step|.
-unfoldable pub stepOf : Slopes → Float → Float → Pass
-stepOf t kappa reach =
+unfoldable pub slopeStep : Slopes → Float → Float → Pass
+slopeStep t kappa reach =
     cond (eq (weights t) 0f || not (finite (weights t))) NoLens
-    (cond (allAgree (meanOf t) (abs (kappa ⊕ meanOf t)) t) (On (kappa ⊕ meanOf t) reach) NoLens)
+    (cond (allAgree (meanSlope t) (abs (kappa ⊕ meanSlope t)) t) (On (kappa ⊕ meanSlope t) reach) NoLens)
 
 -- None without four measures.
 unfoldable pub stepBy : Measures → Float → Float → Pass
-stepBy (All t) kappa reach = stepOf t kappa reach
+stepBy (All t) kappa reach = slopeStep t kappa reach
 stepBy Missing kappa reach = NoLens
 
 -- A pass over points with their quad: none without a quad. `reach` is the greatest over both passes.
-unfoldable pub passOf : List Float → Corners → Point → Float → Float → Pass
-passOf s (Found q) m kappa reach = stepBy (quadMeasures s q m) kappa (reachOf q m reach)
-passOf s NoQuad m kappa reach = NoLens
+unfoldable pub lensPass : List Float → Corners → Point → Float → Float → Pass
+lensPass s (Found q) m kappa reach = stepBy (quadMeasures s q m) kappa (cornerReach q m reach)
+lensPass s NoQuad m kappa reach = NoLens
 
 -- ---- the estimate
 -- The quad of the eight numbers of its corners; none of no numbers.
 abbrev pub quadFrom : List Float → Corners
 quadFrom [] = NoQuad
 quadFrom (x ∷ l) =
-    Found record { a = pointOf x (at l 0); b = pointOf (at l 1) (at l 2); c = pointOf (at l 3) (at l 4); d = pointOf (at l 5) (at l 6) }
+    Found record { a = pointOf x (numberAt l 0); b = pointOf (numberAt l 1) (numberAt l 2); c = pointOf (numberAt l 3) (numberAt l 4); d = pointOf (numberAt l 5) (numberAt l 6) }
 
 -- The quad of the points' hull.
 abbrev pub hullQuad : List Float → Corners
@@ -117,14 +116,14 @@ lensAt m k = record { x = m .x; y = m .y; k = k }
 unfoldable pub secondOf : List Float → Corners → Point → Pass → Pass
 secondOf s raw m (On k reach) =
     let straight = straightOf (lensAt m k) s in
-    cond (eq k 0f) (passOf s raw m k reach) (passOf straight (hullQuad straight) m k reach)
+    cond (eq k 0f) (lensPass s raw m k reach) (lensPass straight (hullQuad straight) m k reach)
 secondOf s raw m NoLens = NoLens
 
 -- The lens of the last pass: κ = 0 without one, or where |κ·reach| is below 0.004.
-unfoldable pub endOf : Point → Pass → Lens
-endOf m (On k reach) = cond (lt (abs (k ⊗ reach)) 0·004) (lensAt m 0f) (lensAt m k)
-endOf m NoLens = lensAt m 0f
+unfoldable pub lensEnd : Point → Pass → Lens
+lensEnd m (On k reach) = cond (lt (abs (k ⊗ reach)) 0·004) (lensAt m 0f) (lensAt m k)
+lensEnd m NoLens = lensAt m 0f
 
 -- The lens about m that the points and their quad tell of; κ = 0 where they tell of none.
 unfoldable pub lensOf : List Float → Corners → Point → Lens
-lensOf s raw m = endOf m (secondOf s raw m (passOf s raw m 0f 0f))
+lensOf s raw m = lensEnd m (secondOf s raw m (lensPass s raw m 0f 0f))

@@ -1,10 +1,11 @@
--- Points straightened by a lens, as ring.rs has it in `undistort` for document 01's "Line, crossing, lens". Definitions only. Assumes
+-- Points straightened by a lens, as ring.rs has it in `undistort` for rules 21 to 25. Definitions only. Assumes
 -- nothing.
 use mathlib.Core.Bool.{Bool, true}
 use mathlib.Core.List.{List}
 use lib.Ieee.{Float}
-use Rattle.fit.specs.F32.{_⊕_, _⊖_, _⊗_, 1f}
-use Rattle.fit.specs.Select.{Rule, keptOf}
+use Rattle.fit.specs.F32.{_⊕_, _⊖_, _⊗_}
+use Rattle.ieee.specs.Constants.{1f}
+use Rattle.fit.specs.Select.{Rule, pointsBy}
 use Rattle.lens.specs.declared.straight.Lens.{Lens}
 
 -- The factor 1 + k·d² of a point at the distance d from the lens's centre.
@@ -19,12 +20,12 @@ abbrev pub straightY : Lens → Float → Float → Float
 straightY l x y = l .y ⊕ (y ⊖ l .y) ⊗ stretch l x y
 
 -- Every point is kept, straightened.
-abbrev pub every : Float → Float → Bool
-every x y = true
+abbrev pub everyPoint : Float → Float → Bool
+everyPoint x y = true
 
 abbrev pub straightRule : Lens → Rule
-straightRule l = record { keep = every; first = straightX l; second = straightY l }
+straightRule l = record { keep = everyPoint; first = straightX l; second = straightY l }
 
 -- A list's points, straightened. A coefficient that is a NaN makes every number a NaN.
 abbrev pub straightOf : Lens → List Float → List Float
-straightOf l s = keptOf (straightRule l) s
+straightOf l s = pointsBy (straightRule l) s

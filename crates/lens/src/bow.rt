@@ -3,7 +3,7 @@
 ghost use mathlib.Core.Path.{_≡_};
 ghost use Prim.Native.Nat.{_+_, _<_, _≤_};
 ghost use lib.ListN.{length};
-ghost use Rattle.lens.specs.Bow.{inlierOf, rowOf, sampleOf, normalOf, solvedOf, restOf};
+ghost use Rattle.lens.specs.Bow.{inlierOf, rowAdded, sampleOf, normalOf, solvedOf, restOf};
 ghost use Rattle.lens.specs.Bow.{squareIn, rssOf, positiveOf, firstFit, bowOf, twoFits};
 
 // A bow c0 + c1·t + a·t·(1 − t) in pixels, with the standard error of a: c0 c1 a error; or none.
@@ -46,7 +46,7 @@ fn inlier(prev: Bow, t: f32, o: f32, g: f32) -> bool
 // One more row 1, t, g and its right side o.
 fn add_row(a: Normal, t: f64, g: f64, o: f64) -> Normal
     requires { ⌜ a .n < 32768 ⌝ }
-    ensures { λ r. ⌜ r ≡ rowOf a t g o ⌝ }
+    ensures { λ r. ⌜ r ≡ rowAdded a t g o ⌝ }
 {
     Normal {
         n: a.n + 1,

@@ -11,8 +11,8 @@ ghost use Prim.Native.Nat.{_≤_};
 ghost use lib.ListN.{length};
 ghost use Rattle.laws.specs.Lent.{UntouchedPast};
 ghost use Rattle.lens.specs.Measure.{measureOf};
-ghost use Rattle.lens.specs.Estimate.{afterMeasure, quadMeasures, stepBy, passOf, hullQuad};
-ghost use Rattle.lens.specs.Estimate.{secondOf, endOf, lensOf};
+ghost use Rattle.lens.specs.Estimate.{afterMeasure, quadMeasures, stepBy, lensPass, hullQuad};
+ghost use Rattle.lens.specs.Estimate.{secondOf, lensEnd, lensOf};
 ghost use Rattle.lens.specs.declared.estimate.Pass.the-variants.{On};
 
 // What the four edges of a quad tell of the lens.
@@ -48,8 +48,8 @@ fn next_measure(
 ) -> Measure
     requires { ⌜ length (now s) ≤ length (now buf) ⌝ }
     requires { ⌜ length (now s) ≤ 32768 ⌝ }
-    ensures { λ r. ⌜ r ≡ afterMeasure before (measureOf (now (s .entry)) a b m) ⌝ }
-    ensures { λ r. ⌜ UntouchedPast (length (now (s .entry)))
+    ensures answer { λ r. ⌜ r ≡ afterMeasure before (measureOf (now (s .entry)) a b m) ⌝ }
+    ensures buf_past { λ r. ⌜ UntouchedPast (length (now (s .entry)))
         (now (buf .entry)) (now (buf .exit)) ⌝ }
 {
     let Measure::Bent(_) = before else {
@@ -62,8 +62,8 @@ fn next_measure(
 fn edges(s: &[f32], q: Quad, m: Point, buf: &mut [f32]) -> Measures
     requires { ⌜ length (now s) ≤ length (now buf) ⌝ }
     requires { ⌜ length (now s) ≤ 32768 ⌝ }
-    ensures { λ r. ⌜ r ≡ quadMeasures (now (s .entry)) q m ⌝ }
-    ensures { λ r. ⌜ UntouchedPast (length (now (s .entry)))
+    ensures answer { λ r. ⌜ r ≡ quadMeasures (now (s .entry)) q m ⌝ }
+    ensures buf_past { λ r. ⌜ UntouchedPast (length (now (s .entry)))
         (now (buf .entry)) (now (buf .exit)) ⌝ }
 {
     let ab = crate::measure::measure_edge(s, q.a, q.b, m, buf);
@@ -87,8 +87,8 @@ fn step_by(t: Measures, kappa: f32, reach: f32) -> Pass
 fn one_pass(s: &[f32], q: Corners, m: Point, kappa: f32, reach: f32, buf: &mut [f32]) -> Pass
     requires { ⌜ length (now s) ≤ length (now buf) ⌝ }
     requires { ⌜ length (now s) ≤ 32768 ⌝ }
-    ensures { λ r. ⌜ r ≡ passOf (now (s .entry)) q m kappa reach ⌝ }
-    ensures { λ r. ⌜ UntouchedPast (length (now (s .entry)))
+    ensures answer { λ r. ⌜ r ≡ lensPass (now (s .entry)) q m kappa reach ⌝ }
+    ensures buf_past { λ r. ⌜ UntouchedPast (length (now (s .entry)))
         (now (buf .entry)) (now (buf .exit)) ⌝ }
 {
     let Corners::Found(f) = q else {
@@ -102,8 +102,8 @@ fn one_pass(s: &[f32], q: Corners, m: Point, kappa: f32, reach: f32, buf: &mut [
 fn straight_pass(s: &[f32], m: Point, kappa: f32, reach: f32, buf: &mut [f32]) -> Pass
     requires { ⌜ length (now s) ≤ length (now buf) ⌝ }
     requires { ⌜ length (now s) ≤ 32768 ⌝ }
-    ensures { λ r. ⌜ r ≡ passOf (now (s .entry)) (hullQuad (now (s .entry))) m kappa reach ⌝ }
-    ensures { λ r. ⌜ UntouchedPast (length (now (s .entry)))
+    ensures answer { λ r. ⌜ r ≡ lensPass (now (s .entry)) (hullQuad (now (s .entry))) m kappa reach ⌝ }
+    ensures buf_past { λ r. ⌜ UntouchedPast (length (now (s .entry)))
         (now (buf .entry)) (now (buf .exit)) ⌝ }
 {
     let o = crate::outer::outer_of(s, buf);
@@ -124,10 +124,10 @@ fn second(
     requires { ⌜ length (now s) ≤ length (now straight) ⌝ }
     requires { ⌜ length (now s) ≤ length (now buf) ⌝ }
     requires { ⌜ length (now s) ≤ 32768 ⌝ }
-    ensures { λ r. ⌜ r ≡ secondOf (now (s .entry)) raw m (On kappa reach) ⌝ }
-    ensures { λ r. ⌜ UntouchedPast (length (now (s .entry)))
+    ensures answer { λ r. ⌜ r ≡ secondOf (now (s .entry)) raw m (On kappa reach) ⌝ }
+    ensures straight_past { λ r. ⌜ UntouchedPast (length (now (s .entry)))
         (now (straight .entry)) (now (straight .exit)) ⌝ }
-    ensures { λ r. ⌜ UntouchedPast (length (now (s .entry)))
+    ensures buf_past { λ r. ⌜ UntouchedPast (length (now (s .entry)))
         (now (buf .entry)) (now (buf .exit)) ⌝ }
 {
     if kappa == 0.0 {
@@ -144,7 +144,7 @@ fn second(
 
 // The lens of the last pass.
 fn end(m: Point, p: Pass) -> Lens
-    ensures { λ r. ⌜ r ≡ endOf m p ⌝ }
+    ensures { λ r. ⌜ r ≡ lensEnd m p ⌝ }
 {
     let Pass::On(kappa, reach) = p else {
         return Lens {
@@ -178,10 +178,10 @@ pub fn estimate_lens(
     requires { ⌜ length (now s) ≤ length (now straight) ⌝ }
     requires { ⌜ length (now s) ≤ length (now buf) ⌝ }
     requires { ⌜ length (now s) ≤ 32768 ⌝ }
-    ensures { λ r. ⌜ r ≡ lensOf (now (s .entry)) raw m ⌝ }
-    ensures { λ r. ⌜ UntouchedPast (length (now (s .entry)))
+    ensures answer { λ r. ⌜ r ≡ lensOf (now (s .entry)) raw m ⌝ }
+    ensures straight_past { λ r. ⌜ UntouchedPast (length (now (s .entry)))
         (now (straight .entry)) (now (straight .exit)) ⌝ }
-    ensures { λ r. ⌜ UntouchedPast (length (now (s .entry)))
+    ensures buf_past { λ r. ⌜ UntouchedPast (length (now (s .entry)))
         (now (buf .entry)) (now (buf .exit)) ⌝ }
 {
     let Pass::On(kappa, reach) = one_pass(s, raw, m, 0.0, 0.0, buf) else {

@@ -9,7 +9,7 @@ ghost use Prim.Native.Nat.{_≤_};
 ghost use lib.ListN.{length};
 ghost use Rattle.fit.specs.Select.{KeptIn};
 ghost use Rattle.laws.specs.Lent.{UntouchedPast};
-ghost use Rattle.lens.specs.Measure.{sideOf, outwardOf, bowNear, samplesOf, bentOf};
+ghost use Rattle.lens.specs.Measure.{edgeSide, outwardOf, bowNear, samplesOf, bentOf};
 ghost use Rattle.lens.specs.Measure.{measureOf};
 
 // Which way is outward from a centre at an edge: the distance of the edge's line from the centre in
@@ -34,7 +34,7 @@ pub enum Measure {
 
 // The outward side of an edge.
 fn side_of(e: Edge, m: Point) -> Side
-    ensures { λ r. ⌜ r ≡ sideOf e m ⌝ }
+    ensures { λ r. ⌜ r ≡ edgeSide e m ⌝ }
 {
     let nx = e.uy;
     let ny = -e.ux;
@@ -107,8 +107,8 @@ fn bent(e: Edge, d: Side, bow: Bow) -> Measure
 pub(crate) fn measure_edge(s: &[f32], a: Point, b: Point, m: Point, buf: &mut [f32]) -> Measure
     requires { ⌜ length (now s) ≤ length (now buf) ⌝ }
     requires { ⌜ length (now s) ≤ 32768 ⌝ }
-    ensures { λ r. ⌜ r ≡ measureOf (now (s .entry)) a b m ⌝ }
-    ensures { λ r. ⌜ UntouchedPast (length (now (s .entry)))
+    ensures answer { λ r. ⌜ r ≡ measureOf (now (s .entry)) a b m ⌝ }
+    ensures buf_past { λ r. ⌜ UntouchedPast (length (now (s .entry)))
         (now (buf .entry)) (now (buf .exit)) ⌝ }
 {
     let e = fit::corners::edge_of(a, b);

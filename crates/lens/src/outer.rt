@@ -17,9 +17,9 @@ pub struct Outer {
 // The hull of points and its quad; out's beginning holds the vertices then.
 pub fn outer_of(s: &[f32], out: &mut [f32]) -> Outer
     requires { ⌜ length (now s) ≤ length (now out) ⌝ }
-    ensures { λ r. ⌜ r .hull ≡ length (hullOf (now (s .entry)) (many (now (s .entry)))) ⌝ }
-    ensures { λ r. ⌜ r .quad ≡ hullQuad (now (s .entry)) ⌝ }
-    ensures { λ r. ⌜ UntouchedPast (length (now (s .entry)))
+    ensures hull { λ r. ⌜ r .hull ≡ length (hullOf (now (s .entry)) (many (now (s .entry)))) ⌝ }
+    ensures quad { λ r. ⌜ r .quad ≡ hullQuad (now (s .entry)) ⌝ }
+    ensures out_past { λ r. ⌜ UntouchedPast (length (now (s .entry)))
         (now (out .entry)) (now (out .exit)) ⌝ }
 {
     let h = hull::walk::convex_hull(s, out);

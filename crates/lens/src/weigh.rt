@@ -9,7 +9,7 @@ use hull::points::Point;
 use hull::points::Quad;
 ghost use mathlib.Core.Path.{_≡_};
 ghost use Rattle.lens.specs.Estimate.{measuresOf, weights, shares, agrees, allAgree};
-ghost use Rattle.lens.specs.Estimate.{reachOf, stepOf};
+ghost use Rattle.lens.specs.Estimate.{cornerReach, slopeStep};
 
 // The four measures, or none where one is none.
 pub fn measures(a: Measure, b: Measure, c: Measure, d: Measure) -> Measures
@@ -80,7 +80,7 @@ fn all_agree(step: f32, total: f32, t: Slopes) -> bool
 
 // The greatest of reach and the corners' squared distances from the centre.
 pub fn reach_of(q: Quad, m: Point, reach: f32) -> f32
-    ensures { λ r. ⌜ r ≡ reachOf q m reach ⌝ }
+    ensures { λ r. ⌜ r ≡ cornerReach q m reach ⌝ }
 {
     let a = ieee::max32(reach, fit::corners::d2(q.a.x, q.a.y, m));
     let b = ieee::max32(a, fit::corners::d2(q.b.x, q.b.y, m));
@@ -90,7 +90,7 @@ pub fn reach_of(q: Quad, m: Point, reach: f32) -> f32
 
 // κ with the mean added, or none.
 pub fn step(t: Slopes, kappa: f32, reach: f32) -> Pass
-    ensures { λ r. ⌜ r ≡ stepOf t kappa reach ⌝ }
+    ensures { λ r. ⌜ r ≡ slopeStep t kappa reach ⌝ }
 {
     let den = weigh(t);
     if den == 0.0 {

@@ -9,49 +9,49 @@ use Rattle.laws.proofs.Folds.{fold-ext, fold-suc, getD-written}
 use Rattle.laws.proofs.Planes.{boxRow-part, drawn-ext, getD-part, part, plane-drawn}
 use Rattle.laws.proofs.Writes.{written-ext}
 use Rattle.laws.specs.Fold.{fold, written}
-use Rattle.laws.specs.Plane.{Alike, Plane, binsOf, box, drawn, plane, rowwise}
+use Rattle.laws.specs.Plane.{Alike, Plane, valueAt, box, drawn, plane, rowwise}
 use Rattle.levels.specs.Level.{from3, leastNear, many3, mostNear, sharp}
-use Rattle.levels.specs.Steps.{Bytes, across, column, down, joined, pairwise, pooled, unit}
+use Rattle.levels.specs.Inner.{Bytes, pooledAcross, columnExtreme, pooledDown, poolStep, pairwise, pooled, unit}
 
-pub column-none : (most : Bool) (g : Plane) (x y0 : ℕ) → column most g x y0 0 ≡ unit most
-unfolding column fold
+pub column-none : (most : Bool) (g : Plane) (x y0 : ℕ) → columnExtreme most g x y0 0 ≡ unit most
+unfolding columnExtreme fold
 column-none most g x y0 = refl
 
-pub column-more : (most : Bool) (g : Plane) (x y0 j : ℕ) → column most g x y0 (j + 1) ≡ joined most (column most g x y0 j) (g x (y0 + j))
-unfolding column
+pub column-more : (most : Bool) (g : Plane) (x y0 j : ℕ) → columnExtreme most g x y0 (j + 1) ≡ poolStep most (columnExtreme most g x y0 j) (g x (y0 + j))
+unfolding columnExtreme
 column-more most g x y0 j = rw fold-suc
 
 -- the part of row y within 3 of x
 pub across-part : (most : Bool) (s : List ℕ) (w x y a e : ℕ) → a ≡ y * w + from3 x → e ≡ a + many3 w x → e ≤ length s
-    → fold (joined most) (unit most) (length (part a e s)) (binsOf (part a e s)) ≡ across most w (plane w s) x y
-unfolding across
+    → fold (poolStep most) (unit most) (length (part a e s)) (valueAt (part a e s)) ≡ pooledAcross most w (plane w s) x y
+unfolding pooledAcross
 across-part most s w x y a e ea ee l =
     let n : e - a ≡ many3 w x = omega arith in
     let m : length (take (many3 w x) (drop a s)) ≡ many3 w x = simp (length-take, length-drop) (omega arith) in
-    rw (n, m, ea) (boxRow-part (joined most) (unit most) s w (from3 x) y (many3 w x))
+    rw (n, m, ea) (boxRow-part (poolStep most) (unit most) s w (from3 x) y (many3 w x))
 
-pub two-least : (w h : ℕ) (g : Plane) (x y : ℕ) → down false h (across false w g) x y ≡ leastNear w h g x y
-unfolding down column across leastNear box
+pub two-least : (w h : ℕ) (g : Plane) (x y : ℕ) → pooledDown false h (pooledAcross false w g) x y ≡ leastNear w h g x y
+unfolding pooledDown columnExtreme pooledAcross leastNear box
 two-least w h g x y = refl
 
-pub two-most : (w h : ℕ) (g : Plane) (x y : ℕ) → down true h (across true w g) x y ≡ mostNear w h g x y
-unfolding down column across mostNear box
+pub two-most : (w h : ℕ) (g : Plane) (x y : ℕ) → pooledDown true h (pooledAcross true w g) x y ≡ mostNear w h g x y
+unfolding pooledDown columnExtreme pooledAcross mostNear box
 two-most w h g x y = refl
 
-pub down-ext : (most : Bool) (w h : ℕ) (f g : Plane) → Alike w h f g → Alike w h (down most h f) (down most h g)
-unfolding down column
+pub down-ext : (most : Bool) (w h : ℕ) (f g : Plane) → Alike w h f g → Alike w h (pooledDown most h f) (pooledDown most h g)
+unfolding pooledDown columnExtreme
 down-ext most w h f g same x y lx ly =
-    fold-ext (joined most) (unit most) (many3 h y) (λ j. f x (from3 y + j)) (λ j. g x (from3 y + j))
+    fold-ext (poolStep most) (unit most) (many3 h y) (λ j. f x (from3 y + j)) (λ j. g x (from3 y + j))
     (λ j l. same x (from3 y + j) lx (omega arith))
 
 -- a list pooled across into mid, and down into itself
-pub pooled-drawn : (most : Bool) (w h : ℕ) (s old mid last : List ℕ) → mid ≡ drawn w h (across most w (plane w s)) old
-    → last ≡ drawn w h (down most h (plane w mid)) s → last ≡ drawn w h (pooled most w h (plane w s)) s
+pub pooled-drawn : (most : Bool) (w h : ℕ) (s old mid last : List ℕ) → mid ≡ drawn w h (pooledAcross most w (plane w s)) old
+    → last ≡ drawn w h (pooledDown most h (plane w mid)) s → last ≡ drawn w h (pooled most w h (plane w s)) s
 unfolding pooled
 pooled-drawn most w h s old mid last em el =
-    el ∙ drawn-ext w h (down most h (plane w mid)) (down most h (across most w (plane w s))) s
-    (down-ext most w h (plane w mid) (across most w (plane w s))
-    (λ x y lx ly. rw em (plane-drawn w h (across most w (plane w s)) old x y lx ly)))
+    el ∙ drawn-ext w h (pooledDown most h (plane w mid)) (pooledDown most h (pooledAcross most w (plane w s))) s
+    (down-ext most w h (plane w mid) (pooledAcross most w (plane w s))
+    (λ x y lx ly. rw em (plane-drawn w h (pooledAcross most w (plane w s)) old x y lx ly)))
 
 -- thresholds of pooled lists, place by place
 pub pairwise-drawn : (w h : ℕ) (d l d₀ l₀ ds ls old : List ℕ)

@@ -13,7 +13,7 @@ use borrow.Author.Tests.{ltb-true}
 use Rattle.laws.proofs.Planes.{box-ext}
 use Rattle.laws.specs.Plane.{Alike, Plane}
 use Rattle.levels.specs.Level.{east, fillAt, from3, leastNear, many3, mostNear, north, passes, sharp, south, west}
-use Rattle.levels.specs.Reach.{Near}
+use Rattle.levels.specs.Reach.{WithinCells}
 
 -- ---- a cell of the window of 3
 near3 : (n c i : ℕ) → c < n → i < many3 n c → (from3 c + i < n) × (from3 c + i ≤ c + 3) × (c ≤ from3 c + i + 3)
@@ -21,7 +21,7 @@ near3 n c i l m = (omega arith, omega arith, omega arith)
 
 -- ---- the steps, of planes that agree in the cells of w by h within r of (x, y)
 abbrev pub Agree : ℕ → ℕ → ℕ → ℕ → ℕ → Plane → Plane → Type 0
-Agree w h r x y f g = (i j : ℕ) → i < w → j < h → Near r x y i j → f i j ≡ g i j
+Agree w h r x y f g = (i j : ℕ) → i < w → j < h → WithinCells r x y i j → f i j ≡ g i j
 
 module _ (w h x y : ℕ) (lx : x < w) (ly : y < h) where
   pub least-local : (f g : Plane) → Agree w h 3 x y f g → leastNear w h f x y ≡ leastNear w h g x y
@@ -91,7 +91,7 @@ module _ (w h x y : ℕ) (lx : x < w) (ly : y < h) where
     fill-local = rw (west-local, east-local, north-local, south-local, here-local)
 
 -- what is near what is near
-pub near-near : {r k x y i j a b : ℕ} → Near r x y i j → Near k i j a b → Near (k + r) x y a b
+pub near-near : {r k x y i j a b : ℕ} → WithinCells r x y i j → WithinCells k i j a b → WithinCells (k + r) x y a b
 near-near m n = record { right = omega arith; left = omega arith; below = omega arith; above = omega arith }
 
 pub passes-local : (w h k : ℕ) (f g : Plane) (x y : ℕ) → x < w → y < h → Agree w h k x y f g → passes w h k f x y ≡ passes w h k g x y
@@ -102,7 +102,7 @@ passes-local w h (suc k) f g x y lx ly same =
     fill-local w h x y lx ly (passes w h k f) (passes w h k g)
     (λ i j li lj m. passes-local w h k f g i j li lj (λ a b la lb n. same a b la lb (near-one n m)))
   where
-    near-one : {i j a b : ℕ} → Near k i j a b → Near 1 x y i j → Near (suc k) x y a b
+    near-one : {i j a b : ℕ} → WithinCells k i j a b → WithinCells 1 x y i j → WithinCells (suc k) x y a b
     near-one n m = record { right = omega arith; left = omega arith; below = omega arith; above = omega arith }
 
 -- ---- planes that agree in the whole grid

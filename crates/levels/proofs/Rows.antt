@@ -2,7 +2,7 @@
 --     iter, iter-is            the passes over a grid in a list
 --     row-dark-first           the first cell with dark 0, the others with 248, all with light 255: 204 up to cell 11, then 0
 --     row-light                all cells with dark 248 and light 255: 0 everywhere
---     row-to-11, row-12        document 01's line
+--     row-to-11, row-12        the row of 14 cells of rule 49
 -- Assumes nothing.
 use mathlib.Core.Bool.{cond}
 use mathlib.Core.List.{List, [], _∷_}
@@ -16,10 +16,10 @@ use borrow.Author.Tests.{ne-eqb}
 use Rattle.laws.proofs.Planes.{plane-drawn}
 use Rattle.laws.specs.Fold.{fold, tab}
 use Rattle.laws.specs.Plane.{Alike, Plane, box, boxRow, drawn, plane}
-use Rattle.margin.specs.Threshold.{margin, share, threshold}
+use Rattle.threshold.specs.Threshold.{margin, share, threshold}
 use Rattle.levels.proofs.Reach.{fill-ext, passes-ext, sharp-ext}
 use Rattle.levels.specs.Level.{dark, east, fillAt, leastNear, level, light, mean, mostNear, north, passes, sharp, south, west}
-use Rattle.levels.proofs.Spots.{flat-spotted, spot-dark-few, spot-dark-many, spot-light-few}
+use Rattle.levels.proofs.Spots.{flat-spotted, spot-dark-few, spot-light-few}
 use Rattle.levels.specs.Spots.{RowOf14, Spotted}
 
 -- passes as lists
@@ -105,7 +105,7 @@ row-light p darks lights x lx =
     flat x zero l m = darks x l
     flat x (suc y) l m = absurd (omega arith)
 
--- ---- document 01's line
+-- ---- the row of 14 cells of rule 49
 to-11 : (x : ℕ) → x ≤ 11 → getD filled x 0 ≡ 204
 to-11 zero l = refl
 to-11 (suc zero) l = refl

@@ -1,4 +1,4 @@
--- The level cells that document 01's starred lines speak of, "Edges of the rules". Definitions only. Assumes nothing.
+-- The level cells that rule 49's lines speak of. Definitions only. Assumes nothing.
 use mathlib.Core.Logic.{_⊎_}
 use mathlib.Core.Path.{_≡_}
 use Prim.Native.Nat.{ℕ, _+_, _*_, _<_, _≤_}

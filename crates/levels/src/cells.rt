@@ -1,25 +1,16 @@
 // The dark and light levels of the level cells, 16 by 16 pixels each, from bins of pixel values.
 ghost use mathlib.Core.Path.{_≡_};
-ghost use Prim.Native.Nat.{ℕ, _+_, _*_, _≤_, _<_};
-ghost use lib.ListN.{length, getD};
-ghost use Rattle.laws.specs.Plane.{plane, drawn, binsOf};
+ghost use Prim.Native.Nat.{_+_, _*_, _≤_, _<_};
+ghost use lib.ListN.{length};
+ghost use Rattle.laws.specs.Plane.{plane, drawn, valueAt};
 ghost use Rattle.levels.specs.Level.{countRows, lowBin, highBin, span, cells, dark, light};
-ghost use Rattle.levels.specs.Steps.{
-  Picture,
-  Within,
-  Bins,
-  Paired,
-  AtMost,
-  sums,
-  more,
-  Bytes,
-  Counted,
-};
+ghost use Rattle.picture_checks.specs.Picture.{Picture};
+ghost use Rattle.levels.specs.Inner.{Within, Bins, Paired, BinsUpTo, sums, more, Counted};
 
 // Adds a byte to bins.
 fn count_one(bins: &mut [u32; 32], v: u8)
     requires { ⌜ length (now bins) ≡ 32 ⌝ }
-    requires { ⌜ AtMost 256 (binsOf (now bins)) ⌝ }
+    requires { ⌜ BinsUpTo 256 (valueAt (now bins)) ⌝ }
     ensures { λ _. ⌜ Counted v (now (bins .entry)) (now (bins .exit)) ⌝ }
 {
     let b = (v / 8) as usize;
@@ -31,7 +22,7 @@ fn count_one(bins: &mut [u32; 32], v: u8)
 fn count_pairs(row: &[u8], even: &mut [u32; 32], odd: &mut [u32; 32])
     requires { ⌜ length (now row) ≤ 16 ⌝ }
     requires { ⌜ (length (now even) ≡ 32) × (length (now odd) ≡ 32) ⌝ }
-    requires { ⌜ AtMost 240 (sums (now even) (now odd)) ⌝ }
+    requires { ⌜ BinsUpTo 240 (sums (now even) (now odd)) ⌝ }
     ensures { λ _. ⌜
         Paired (more (now (row .entry)) (now (even .entry)) (now (odd .entry)))
         (now (even .exit)) (now (odd .exit)) ⌝ }
@@ -49,7 +40,7 @@ fn count_pairs(row: &[u8], even: &mut [u32; 32], odd: &mut [u32; 32])
 
 // The sums of two arrays of bins.
 fn merged(a: &[u32; 32], b: &[u32; 32]) -> [u32; 32]
-    requires { ⌜ AtMost 256 (sums (now a) (now b)) ⌝ }
+    requires { ⌜ BinsUpTo 256 (sums (now a) (now b)) ⌝ }
     ensures { λ r. ⌜ Bins (sums (now (a .entry)) (now (b .entry))) r ⌝ }
 {
     let mut r = [0u32; 32];
@@ -80,9 +71,9 @@ fn count_cell(s: &[u8], w: usize, x0: usize, y0: usize, lx: usize, ly: usize) ->
 
 // The first bin from below where the running count exceeds cut, else 31.
 fn low_bin(bins: &[u32; 32], cut: u32) -> usize
-    requires { ⌜ AtMost 256 (binsOf (now bins)) ⌝ }
-    ensures { λ r. ⌜ r ≡ lowBin (binsOf (now (bins .entry))) cut ⌝ }
-    ensures { λ r. ⌜ r ≤ 31 ⌝ }
+    requires { ⌜ BinsUpTo 256 (valueAt (now bins)) ⌝ }
+    ensures answer { λ r. ⌜ r ≡ lowBin (valueAt (now (bins .entry))) cut ⌝ }
+    ensures most { λ r. ⌜ r ≤ 31 ⌝ }
 {
     let mut acc: u32 = 0;
     let mut b = 0;
@@ -98,9 +89,9 @@ fn low_bin(bins: &[u32; 32], cut: u32) -> usize
 
 // The first bin from above where the running count exceeds cut, else 0.
 fn high_bin(bins: &[u32; 32], cut: u32) -> usize
-    requires { ⌜ AtMost 256 (binsOf (now bins)) ⌝ }
-    ensures { λ r. ⌜ r ≡ highBin (binsOf (now (bins .entry))) cut ⌝ }
-    ensures { λ r. ⌜ r ≤ 31 ⌝ }
+    requires { ⌜ BinsUpTo 256 (valueAt (now bins)) ⌝ }
+    ensures answer { λ r. ⌜ r ≡ highBin (valueAt (now (bins .entry))) cut ⌝ }
+    ensures most { λ r. ⌜ r ≤ 31 ⌝ }
 {
     let mut acc: u32 = 0;
     let mut k = 0;
@@ -162,10 +153,10 @@ pub(crate) fn level_cells(s: &[u8], w: usize, h: usize, darks: &mut [u32], light
     requires { ⌜
         (cells w * cells h ≤ length (now darks))
         × (cells w * cells h ≤ length (now lights)) ⌝ }
-    ensures { λ _. ⌜
+    ensures darks { λ _. ⌜
         now (darks .exit)
         ≡ drawn (cells w) (cells h) (dark (plane w (now (s .entry))) w h) (now (darks .entry)) ⌝ }
-    ensures { λ _. ⌜
+    ensures lights { λ _. ⌜
         now (lights .exit)
         ≡ drawn (cells w) (cells h) (light (plane w (now (s .entry))) w h) (now (lights .entry)) ⌝ }
 {

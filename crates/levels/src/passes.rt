@@ -1,12 +1,12 @@
 // Up to eight fill passes, each from the grid before it.
 ghost use mathlib.Core.Path.{_≡_};
-ghost use Prim.Native.Nat.{ℕ, _+_, _*_, _≤_, _<_};
-ghost use lib.ListN.{length, getD};
+ghost use Prim.Native.Nat.{_+_, _*_, _≤_, _<_};
+ghost use lib.ListN.{length};
 ghost use Rattle.laws.specs.Fold.{written};
 ghost use Rattle.laws.specs.Lent.{UntouchedPast};
-ghost use Rattle.laws.specs.Plane.{plane, drawn, binsOf};
+ghost use Rattle.laws.specs.Plane.{plane, drawn, valueAt};
 ghost use Rattle.levels.specs.Level.{west, east, north, south, nonzero, mean, fillAt, passes};
-ghost use Rattle.levels.specs.Steps.{Grid, Bytes};
+ghost use Rattle.levels.specs.Inner.{LevelGrid, Bytes};
 
 // The side neighbours of a cell but the west one, 0 outside the grid.
 fn east_of(g: &[u8], w: usize, x: usize, y: usize) -> u8
@@ -31,7 +31,7 @@ fn north_of(g: &[u8], w: usize, x: usize, y: usize) -> u8
 }
 
 fn south_of(g: &[u8], w: usize, h: usize, x: usize, y: usize) -> u8
-    requires { ⌜ Grid (now g) w h ⌝ }
+    requires { ⌜ LevelGrid (now g) w h ⌝ }
     requires { ⌜ (x < w) × (y < h) ⌝ }
     ensures { λ r. ⌜ r ≡ south h (plane w (now (g .entry))) x y ⌝ }
 {
@@ -62,7 +62,7 @@ fn mean_of(a: u8, b: u8, c: u8, d: u8) -> u8
 
 // One cell after a fill pass, of v in it and of the byte to its west.
 fn fill_cell(g: &[u8], w: usize, h: usize, x: usize, y: usize, v: u8, left: u8) -> u8
-    requires { ⌜ Grid (now g) w h ⌝ }
+    requires { ⌜ LevelGrid (now g) w h ⌝ }
     requires { ⌜ (x < w) × (y < h) ⌝ }
     requires { ⌜ v ≡ plane w (now g) x y ⌝ }
     requires { ⌜ left ≡ west (plane w (now g)) x y ⌝ }
@@ -82,12 +82,12 @@ fn fill_cell(g: &[u8], w: usize, h: usize, x: usize, y: usize, v: u8, left: u8) 
 // One fill pass, from the grid prev into the grid next. The byte to the west is the one that prev
 // has there, kept from the cell before; at the beginning of a row it is 0.
 fn fill_pass(prev: &[u8], next: &mut [u32], w: usize, h: usize)
-    requires { ⌜ Grid (now prev) w h ⌝ }
+    requires { ⌜ LevelGrid (now prev) w h ⌝ }
     requires { ⌜ w * h ≤ length (now next) ⌝ }
-    ensures { λ _. ⌜
+    ensures next { λ _. ⌜
         now (next .exit)
         ≡ drawn w h (fillAt w h (plane w (now (prev .entry)))) (now (next .entry)) ⌝ }
-    ensures { λ _. ⌜ Bytes (w * h) (now (next .exit)) ⌝ }
+    ensures bytes { λ _. ⌜ Bytes (w * h) (now (next .exit)) ⌝ }
 {
     let n = w * h;
     let mut k = 0;
@@ -113,7 +113,7 @@ fn fill_pass(prev: &[u8], next: &mut [u32], w: usize, h: usize)
 fn narrow(src: &[u32], dst: &mut [u8], n: usize)
     requires { ⌜ (n ≤ length (now src)) × (n ≤ length (now dst)) ⌝ }
     requires { ⌜ Bytes n (now src) ⌝ }
-    ensures { λ _. ⌜ now (dst .exit) ≡ written n (binsOf (now (src .entry))) (now (dst .entry)) ⌝ }
+    ensures { λ _. ⌜ now (dst .exit) ≡ written n (valueAt (now (src .entry))) (now (dst .entry)) ⌝ }
 {
     let mut k = 0;
     while k < n {
@@ -124,12 +124,12 @@ fn narrow(src: &[u32], dst: &mut [u8], n: usize)
 
 // Eight fill passes over a grid, each into the working grid and back.
 pub(crate) fn fill_passes(grid: &mut [u8], work: &mut [u32], w: usize, h: usize)
-    requires { ⌜ Grid (now grid) w h ⌝ }
-    requires { ⌜ Grid (now work) w h ⌝ }
-    ensures { λ _. ⌜
+    requires { ⌜ LevelGrid (now grid) w h ⌝ }
+    requires { ⌜ LevelGrid (now work) w h ⌝ }
+    ensures grid { λ _. ⌜
         now (grid .exit)
         ≡ drawn w h (passes w h 8 (plane w (now (grid .entry)))) (now (grid .entry)) ⌝ }
-    ensures { λ _. ⌜ UntouchedPast (w * h) (now (work .entry)) (now (work .exit)) ⌝ }
+    ensures work_past { λ _. ⌜ UntouchedPast (w * h) (now (work .entry)) (now (work .exit)) ⌝ }
 {
     let mut i: usize = 0;
     while i < 8 {

@@ -1,22 +1,13 @@
 // The least dark and greatest light level within 3 cells, in two steps, and thresholds from them.
 ghost use mathlib.Core.Path.{_≡_};
-ghost use Prim.Native.Nat.{ℕ, _+_, _*_, _≤_, _<_, min, max};
-ghost use lib.ListN.{length, getD};
+ghost use Prim.Native.Nat.{_+_, _*_, _≤_, _<_, min, max};
+ghost use lib.ListN.{length};
 ghost use Rattle.laws.specs.Fold.{fold, written};
 ghost use Rattle.laws.specs.Lent.{UntouchedPast};
-ghost use Rattle.laws.specs.Plane.{plane, drawn, binsOf};
+ghost use Rattle.laws.specs.Plane.{plane, drawn, valueAt};
 ghost use Rattle.levels.specs.Level.{from3, many3, sharp};
-ghost use Rattle.levels.specs.Steps.{
-  Grid,
-  Bytes,
-  joined,
-  unit,
-  across,
-  down,
-  pooled,
-  pairwise,
-};
-use margin::threshold_of;
+ghost use Rattle.levels.specs.Inner.{LevelGrid, Bytes, poolStep, unit, pooledAcross, pooledDown, pooled, pairwise};
+use threshold::threshold_of;
 
 fn min8(a: u8, b: u8) -> u8
     ensures { λ r. ⌜ r ≡ min a b ⌝ }
@@ -32,7 +23,7 @@ fn max8(a: u8, b: u8) -> u8
 
 // The greater or the lesser of two bytes.
 fn join8(most: bool, a: u8, b: u8) -> u8
-    ensures { λ r. ⌜ r ≡ joined most a b ⌝ }
+    ensures { λ r. ⌜ r ≡ poolStep most a b ⌝ }
 {
     if most { max8(a, b) } else { min8(a, b) }
 }
@@ -66,8 +57,8 @@ fn near_count(n: usize, c: usize) -> usize
 fn join_row(row: &[u32], most: bool) -> u8
     requires { ⌜ Bytes (length (now row)) (now row) ⌝ }
     ensures { λ r. ⌜
-        r ≡ fold (joined most) (unit most) (length (now (row .entry)))
-        (binsOf (now (row .entry))) ⌝ }
+        r ≡ fold (poolStep most) (unit most) (length (now (row .entry)))
+        (valueAt (now (row .entry))) ⌝ }
 {
     let mut r = unit8(most);
     let mut i = 0;
@@ -80,10 +71,10 @@ fn join_row(row: &[u32], most: bool) -> u8
 
 // One cell, over the cells within 3 in its row.
 fn across_cell(g: &[u32], w: usize, h: usize, x: usize, y: usize, most: bool) -> u8
-    requires { ⌜ Grid (now g) w h ⌝ }
+    requires { ⌜ LevelGrid (now g) w h ⌝ }
     requires { ⌜ Bytes (w * h) (now g) ⌝ }
     requires { ⌜ (x < w) × (y < h) ⌝ }
-    ensures { λ r. ⌜ r ≡ across most w (plane w (now (g .entry))) x y ⌝ }
+    ensures { λ r. ⌜ r ≡ pooledAcross most w (plane w (now (g .entry))) x y ⌝ }
 {
     let a = y * w + near_first(x);
     let e = a + near_count(w, x);
@@ -92,9 +83,9 @@ fn across_cell(g: &[u32], w: usize, h: usize, x: usize, y: usize, most: bool) ->
 
 // One cell, over the cells within 3 in its column.
 fn down_cell(g: &[u8], w: usize, h: usize, x: usize, y: usize, most: bool) -> u8
-    requires { ⌜ Grid (now g) w h ⌝ }
+    requires { ⌜ LevelGrid (now g) w h ⌝ }
     requires { ⌜ (x < w) × (y < h) ⌝ }
-    ensures { λ r. ⌜ r ≡ down most h (plane w (now (g .entry))) x y ⌝ }
+    ensures { λ r. ⌜ r ≡ pooledDown most h (plane w (now (g .entry))) x y ⌝ }
 {
     let y0 = near_first(y);
     let n = near_count(h, y);
@@ -108,12 +99,12 @@ fn down_cell(g: &[u8], w: usize, h: usize, x: usize, y: usize, most: bool) -> u8
 }
 
 fn pool_across(src: &[u32], dst: &mut [u8], w: usize, h: usize, most: bool)
-    requires { ⌜ Grid (now src) w h ⌝ }
+    requires { ⌜ LevelGrid (now src) w h ⌝ }
     requires { ⌜ Bytes (w * h) (now src) ⌝ }
     requires { ⌜ w * h ≤ length (now dst) ⌝ }
     ensures { λ _. ⌜
         now (dst .exit)
-        ≡ drawn w h (across most w (plane w (now (src .entry)))) (now (dst .entry)) ⌝ }
+        ≡ drawn w h (pooledAcross most w (plane w (now (src .entry)))) (now (dst .entry)) ⌝ }
 {
     let n = w * h;
     let mut k = 0;
@@ -131,12 +122,12 @@ fn pool_across(src: &[u32], dst: &mut [u8], w: usize, h: usize, most: bool)
 }
 
 fn pool_down(src: &[u8], dst: &mut [u32], w: usize, h: usize, most: bool)
-    requires { ⌜ Grid (now src) w h ⌝ }
+    requires { ⌜ LevelGrid (now src) w h ⌝ }
     requires { ⌜ w * h ≤ length (now dst) ⌝ }
-    ensures { λ _. ⌜
+    ensures dst { λ _. ⌜
         now (dst .exit)
-        ≡ drawn w h (down most h (plane w (now (src .entry)))) (now (dst .entry)) ⌝ }
-    ensures { λ _. ⌜ Bytes (w * h) (now (dst .exit)) ⌝ }
+        ≡ drawn w h (pooledDown most h (plane w (now (src .entry)))) (now (dst .entry)) ⌝ }
+    ensures bytes { λ _. ⌜ Bytes (w * h) (now (dst .exit)) ⌝ }
 {
     let n = w * h;
     let mut k = 0;
@@ -155,14 +146,14 @@ fn pool_down(src: &[u8], dst: &mut [u32], w: usize, h: usize, most: bool)
 
 // A grid pooled in place, by way of the working grid `mid`.
 fn pool(g: &mut [u32], mid: &mut [u8], w: usize, h: usize, most: bool)
-    requires { ⌜ Grid (now g) w h ⌝ }
+    requires { ⌜ LevelGrid (now g) w h ⌝ }
     requires { ⌜ Bytes (w * h) (now g) ⌝ }
-    requires { ⌜ Grid (now mid) w h ⌝ }
-    ensures { λ _. ⌜
+    requires { ⌜ LevelGrid (now mid) w h ⌝ }
+    ensures g { λ _. ⌜
         now (g .exit)
         ≡ drawn w h (pooled most w h (plane w (now (g .entry)))) (now (g .entry)) ⌝ }
-    ensures { λ _. ⌜ Bytes (w * h) (now (g .exit)) ⌝ }
-    ensures { λ _. ⌜ UntouchedPast (w * h) (now (mid .entry)) (now (mid .exit)) ⌝ }
+    ensures bytes { λ _. ⌜ Bytes (w * h) (now (g .exit)) ⌝ }
+    ensures mid_past { λ _. ⌜ UntouchedPast (w * h) (now (mid .entry)) (now (mid .exit)) ⌝ }
 {
     pool_across(g, mid, w, h, most);
     pool_down(mid, g, w, h, most);
@@ -186,17 +177,17 @@ fn thresholds(darks: &[u32], lights: &[u32], grid: &mut [u8], n: usize)
 
 // The thresholds before filling. It writes over the two grids of levels.
 pub(crate) fn sharp(darks: &mut [u32], lights: &mut [u32], grid: &mut [u8], w: usize, h: usize)
-    requires { ⌜ Grid (now darks) w h ⌝ }
-    requires { ⌜ Grid (now lights) w h ⌝ }
-    requires { ⌜ Grid (now grid) w h ⌝ }
+    requires { ⌜ LevelGrid (now darks) w h ⌝ }
+    requires { ⌜ LevelGrid (now lights) w h ⌝ }
+    requires { ⌜ LevelGrid (now grid) w h ⌝ }
     requires { ⌜ Bytes (w * h) (now darks) ⌝ }
     requires { ⌜ Bytes (w * h) (now lights) ⌝ }
-    ensures { λ _. ⌜
+    ensures grid { λ _. ⌜
         now (grid .exit)
         ≡ drawn w h (sharp w h (plane w (now (darks .entry))) (plane w (now (lights .entry))))
         (now (grid .entry)) ⌝ }
-    ensures { λ _. ⌜ UntouchedPast (w * h) (now (darks .entry)) (now (darks .exit)) ⌝ }
-    ensures { λ _. ⌜ UntouchedPast (w * h) (now (lights .entry)) (now (lights .exit)) ⌝ }
+    ensures darks_past { λ _. ⌜ UntouchedPast (w * h) (now (darks .entry)) (now (darks .exit)) ⌝ }
+    ensures lights_past { λ _. ⌜ UntouchedPast (w * h) (now (lights .entry)) (now (lights .exit)) ⌝ }
 {
     pool(darks, grid, w, h, false);
     pool(lights, grid, w, h, true);

@@ -14,21 +14,21 @@ use lib.ListN.{getD}
 use Rattle.lcr_core.specs.Version.{IsVersion, isVersion, positionsOf}
 use Rattle.lcr_core.proofs.DoorLaws.{is-version}
 use Rattle.marks.specs.Pose.{countsOf}
-use Rattle.marks.specs.Correlate.{bestOf, score}
+use Rattle.marks.specs.Correlate.{bestPose, score}
 use Rattle.marks.specs.Doors.{bestAnswer, countsBeside, classifyChecks}
 use Rattle.marks.specs.declared.correlate.Best.{Best}
 use Rattle.marks.specs.declared.correlate.Best.the-variants as best
 use Rattle.marks.specs.declared.classify.Classified.{Classified}
 use Rattle.marks.specs.declared.classify.Classified.the-variants as classified
 
-pub best-is : (v : ℕ) (s : List Bool) (counts : List ℕ) (b : ℕ) (x : Float) → counts ≡ countsOf v s → b ≡ bestOf counts
+pub best-is : (v : ℕ) (s : List Bool) (counts : List ℕ) (b : ℕ) (x : Float) → counts ≡ countsOf v s → b ≡ bestPose counts
     → x ≡ score v (getD counts b 0) → best.Pose x (b % 4) (leb 4 b) ≡ bestAnswer v (countsOf v s)
 best-is v s counts b x ec eb ex =
-    let e : b ≡ bestOf (countsOf v s) = eb ∙ ap bestOf ec in
-    let y : x ≡ score v (getD (countsOf v s) (bestOf (countsOf v s)) 0) =
+    let e : b ≡ bestPose (countsOf v s) = eb ∙ ap bestPose ec in
+    let y : x ≡ score v (getD (countsOf v s) (bestPose (countsOf v s)) 0) =
     ex ∙ ap (λ (l : List ℕ). score v (getD l b 0)) ec ∙ ap (λ (k : ℕ). score v (getD (countsOf v s) k 0)) e in
     ap (λ (z : Float). best.Pose z (b % 4) (leb 4 b)) y
-    ∙ ap (λ (k : ℕ). best.Pose (score v (getD (countsOf v s) (bestOf (countsOf v s)) 0)) (k % 4) (leb 4 k)) e
+    ∙ ap (λ (k : ℕ). best.Pose (score v (getD (countsOf v s) (bestPose (countsOf v s)) 0)) (k % 4) (leb 4 k)) e
 
 pub counts-is : (v w : ℕ) (s : List Bool) (counts : List ℕ) (r : Best) → w ≡ v → r ≡ bestAnswer w (countsOf w s) → counts ≡ countsOf w s
     → counts ≡ countsBeside r v s

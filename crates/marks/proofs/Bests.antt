@@ -20,7 +20,7 @@ use lib.ListN.{getD}
 use Rattle.lcr_core.specs.Version.{IsVersion, positionsOf}
 use Rattle.laws.proofs.Counts.{count-most}
 use Rattle.marks.specs.Pose.{agreeAt, agreement, countsOf}
-use Rattle.marks.specs.Correlate.{score, bestTo, bestOf, Scored, scored, byScores}
+use Rattle.marks.specs.Correlate.{score, bestTo, bestPose, Scored, scored, byScores}
 use Rattle.marks.proofs.Rises.{score-is, score-rises}
 
 best-step : (counts : List ℕ) (k b r : ℕ) → b ≡ bestTo counts k → r ≡ cond (ltb (getD counts b 0) (getD counts (k + 1) 0)) (k + 1) b
@@ -180,5 +180,5 @@ counts-most v s (suc (suc (suc (suc (suc (suc (suc zero))))))) h = agreement-mos
 counts-most v s (suc (suc (suc (suc (suc (suc (suc (suc k)))))))) h = omega arith
 
 pub best-by-scores : (v : ℕ) → IsVersion v → (s : List Bool)
-    → byScores v (countsOf v s) 8 ≡ scored (score v (getD (countsOf v s) (bestOf (countsOf v s)) 0)) (bestOf (countsOf v s))
+    → byScores v (countsOf v s) 8 ≡ scored (score v (getD (countsOf v s) (bestPose (countsOf v s)) 0)) (bestPose (countsOf v s))
 best-by-scores v is s = by-scores v is (countsOf v s) (counts-most v s) 7 (omega arith)

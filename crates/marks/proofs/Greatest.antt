@@ -12,7 +12,7 @@ use native.Mathlib.Omega.{arith}
 use lib.Dec.{leb, ltb}
 use lib.ListN.{getD}
 use borrow.Author.Tests.{le-leb, le-ltb, leb-false, leb-true, lt-leb, lt-ltb}
-use Rattle.marks.specs.Correlate.{bestOf, bestTo}
+use Rattle.marks.specs.Correlate.{bestPose, bestTo}
 use Rattle.marks.specs.Pose.{agreement, countsOf}
 use Rattle.marks.proofs.Bests.{best-below}
 
@@ -48,7 +48,7 @@ module _ (counts : List ℕ) (k n : ℕ) (top : getD counts k 0 ≡ n)
           let same = was (omega arith) in
           step false (le-ltb (getD counts (bestTo counts i) 0) (getD counts (suc i) 0) (past e same)) ∙ same
 
-  pub best-only : k ≤ 7 → bestOf counts ≡ k
+  pub best-only : k ≤ 7 → bestPose counts ≡ k
   best-only h = reached 7 (omega arith) h
 
 -- ---- places of the counts

@@ -5,7 +5,7 @@
 --     pose-maps     the moved pose's map
 --     counts-moved  the agreement counts of moved marks at moved poses
 -- Assumes nothing.
-use mathlib.Core.Path.{_≡_, refl, sym, ap, _∙_, subst}
+use mathlib.Core.Path.{_≡_, sym, ap, _∙_, subst}
 use mathlib.Core.Bool.{Bool, true, false, Bool·beq}
 use mathlib.Core.List.{List}
 use Prim.Native.Nat.{ℕ, _+_, _*_, _-_, _/_, _%_, _<_, _≤_}
@@ -15,19 +15,7 @@ use lib.ListN.{getD}
 use Rattle.laws.proofs.Counts.{count-ext}
 use Rattle.lcr_core.specs.Version.{quarterOf, positionsOf}
 use Rattle.lcr_core.specs.Mark.{mark}
-use Rattle.marks.specs.Pose.{
-  poseAt,
-  agreeAt,
-  agreement,
-  MarkMove,
-  shift,
-  reversal,
-  followed,
-  markTo,
-  MarksMoved,
-  cornerTo,
-  reversedTo,
-}
+use Rattle.marks.specs.Pose.{poseAt, agreeAt, agreement, MarkMove, shift, reversal, followed, markTo, MarksMoved, cornerTo, reversedTo}
 
 pub mod-same : (n a b i j : ℕ) → a + i * n ≡ b + j * n → a % n ≡ b % n
 mod-same n a b i j e = sym (add-mul-mod-self-right a i n) ∙ ap (λ (m : ℕ). m % n) e ∙ add-mul-mod-self-right b j n

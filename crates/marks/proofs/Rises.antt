@@ -5,10 +5,11 @@
 --     score-rises count to score is strictly rising
 -- Assumes nothing.
 use mathlib.Core.Path.{_≡_, refl, sym, ap, _∙_, subst}
-use mathlib.Core.Bool.{Bool, true, false, cond, true≢false}
-use Prim.Native.Nat.{ℕ, zero, suc, _+_, _*_, _-_, _/_, _%_, _^_, _<_, _≤_}
+use mathlib.Core.Bool.{Bool, true, false, true≢false}
+use Prim.Native.Nat.{ℕ, _+_, _*_, _/_, _%_, _^_, _<_, _≤_}
 use native.Mathlib.Omega.{arith}
 use native.Mathlib.Nat.{
+  lt-of-mul-lt-mul-right,
   mod-add-div',
   mod-lt,
   mul-comm,
@@ -25,10 +26,10 @@ use native.Mathlib.Nat.{
   zero-mul,
 }
 use lib.Pow.{pow-pos}
-use lib.Dec.{T, ltb, eqb, lit<, lit≤}
+use lib.Dec.{T, ltb, lit<, lit≤}
 use borrow.Author.Tests.{lt-ltb, ne-eqb, ltb-true, ltb-false}
 use lib.IntN.{pos}
-use lib.Ieee.{Float, nan, inf, fin, Format, binary32, round, div, ofInt, ofBits, lt, le, up, down, prec, low, emax}
+use lib.Ieee.{Float, nan, inf, fin, binary32, round, div, ofInt, ofBits, lt, up, down}
 use lib.Ieee.Exact.{HasValue, round-exact}
 use lib.Ieee.Order.{round-mono}
 use lib.Ieee.Scale.{round-same}
@@ -103,16 +104,6 @@ cross→lt (fin false m e) (inf t) a c p q h = absurd q
 cross→lt (fin false m e) (fin true n d) a c p q h = absurd q
 cross→lt (fin false m e) (fin false n d) a c p q h = lt-ltb (m * up e * down d) (n * up d * down e) h
 
-cancel : (a b k : ℕ) → a * k < b * k → a < b
-cancel a b k h = go (ltb a b) refl
-  where
-    no : b ≤ a → ⊥
-    no l = let z : b * k ≤ a * k = mul-le-mul-right k l in omega arith
-
-    go : (t : Bool) → ltb a b ≡ t → a < b
-    go true e = ltb-true a b e
-    go false e = absurd (no (ltb-false a b e))
-
 -- A / D ≤ x / k < (x + 1) / k ≤ B / E
 strict : (A D B E x k : ℕ) → 0 < D → 0 < E → 0 < k → A * k ≤ x * D → (x + 1) * E ≤ B * k → A * E < B * D
 strict A D B E x k hD hE hk h g =
@@ -122,7 +113,7 @@ strict A D B E x k hD hE hk h g =
     let s : x * D * E + D * E ≡ (x + 1) * E * D = omega arith in
     let u : A * E * k ≡ A * k * E = omega arith in
     let w : B * D * k ≡ B * k * D = omega arith in
-    cancel (A * E) (B * D) k (below (A * E * k) (A * k * E) (x * D * E) (D * E) ((x + 1) * E * D) (B * k * D) (B * D * k) u p r s q w)
+    lt-of-mul-lt-mul-right k {m = A * E} {n = B * D} (below (A * E * k) (A * k * E) (x * D * E) (D * E) ((x + 1) * E * D) (B * k * D) (B * D * k) u p r s q w)
   where
     below : (a b c d e f g : ℕ) → a ≡ b → b ≤ c → 0 < d → c + d ≡ e → e ≤ f → g ≡ f → a < g
     below a b c d e f g h₁ h₂ h₃ h₄ h₅ h₆ = omega arith

@@ -9,7 +9,7 @@
 use mathlib.Core.Path.{_≡_, refl, sym, ap, _∙_, subst}
 use mathlib.Core.Bool.{Bool, true, false, cond, _||_}
 use mathlib.Core.List.{List}
-use Prim.Native.Nat.{ℕ, zero, suc, _+_, _-_, _≤_, _<_}
+use Prim.Native.Nat.{ℕ, zero, suc, _+_, _-_, _≤_}
 use native.Mathlib.Omega.{arith}
 use native.Mathlib.Decide.{ℕ-discrete}
 use native.Mathlib.Numerals.{add-one}
@@ -17,8 +17,8 @@ use lib.IntN.{pos}
 use lib.Ieee.{Float, nan, binary32, add, div, lt, eq, ofInt}
 use lib.ListN.{length, getD}
 use Rattle.marks.specs.declared.split.Sides.{Sides}
-use Rattle.marks.specs.Split.{0·0, 2·0, totalTo, mean, putSide, noSides, sidesTo, between, splitRound, rounds, split}
-use Rattle.marks.specs.Split.{SameSides}
+use Rattle.marks.specs.Split.{0·0, totalTo, splitMean, putSide, noSides, sidesTo, between, splitRound, rounds, split, SameSides}
+use Rattle.ieee.specs.Constants.{2f}
 
 pub sides-none : (t : Float) (w : List Float) → noSides ≡ sidesTo t w 0
 unfolding sidesTo
@@ -57,7 +57,7 @@ unfolding between
 between-high t s e f = rw (e, f)
 
 pub between-both : (t : Float) (s : Sides) → eq (s .ln) 0·0 ≡ false → eq (s .hn) 0·0 ≡ false
-    → div binary32 (add binary32 (div binary32 (s .lo) (s .ln)) (div binary32 (s .hi) (s .hn))) 2·0 ≡ between t s
+    → div binary32 (add binary32 (div binary32 (s .lo) (s .ln)) (div binary32 (s .hi) (s .hn))) 2f ≡ between t s
 unfolding between
 between-both t s e f = rw (e, f)
 
@@ -68,9 +68,9 @@ round-is w t r s e f = f ∙ ap (λ (z : Sides). between t z) e
 pub split-is : (w : List Float) (total m a b c d : Float) (n : ℕ) → n ≡ length w → total ≡ totalTo w (length w - 1)
     → m ≡ div binary32 total (ofInt binary32 (pos n))
     → a ≡ splitRound w m → b ≡ splitRound w a → c ≡ splitRound w b → d ≡ splitRound w c → d ≡ split w
-unfolding split rounds mean
+unfolding split rounds splitMean
 split-is w total m a b c d n en et em ea eb ec ed =
-    let e : m ≡ mean w =
+    let e : m ≡ splitMean w =
     em ∙ ap (λ (x : Float). div binary32 x (ofInt binary32 (pos n))) et
     ∙ ap (λ (k : ℕ). div binary32 (totalTo w (length w - 1)) (ofInt binary32 (pos k))) en in
     ed ∙ ap (splitRound w) (ec ∙ ap (splitRound w) (eb ∙ ap (splitRound w) (ea ∙ ap (splitRound w) e)))
@@ -105,8 +105,8 @@ unfolding between
 between-stays t a s e = go (eq (s .ln) 0·0 || eq (s .hn) 0·0) e
   where
     go : (c : Bool)
-        → a ≡ cond c t (div binary32 (add binary32 (div binary32 (s .lo) (s .ln)) (div binary32 (s .hi) (s .hn))) 2·0)
-        → a ≡ cond c a (div binary32 (add binary32 (div binary32 (s .lo) (s .ln)) (div binary32 (s .hi) (s .hn))) 2·0)
+        → a ≡ cond c t (div binary32 (add binary32 (div binary32 (s .lo) (s .ln)) (div binary32 (s .hi) (s .hn))) 2f)
+        → a ≡ cond c a (div binary32 (add binary32 (div binary32 (s .lo) (s .ln)) (div binary32 (s .hi) (s .hn))) 2f)
     go true e = refl
     go false e = e
 

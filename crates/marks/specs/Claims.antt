@@ -1,4 +1,4 @@
--- Theorems on ring marks: statements only. `PosesMoved` is the part of demand 3 on marks, in the words of document 01's "Poses".
+-- Theorems on ring marks: statements only. `PosesMoved` is the part of demand 3 on marks, by rule 40.
 use mathlib.Core.Path.{_≡_}
 use mathlib.Core.Bool.{Bool, true}
 use mathlib.Core.List.{List}
@@ -7,7 +7,7 @@ use lib.Ieee.{lt}
 use lib.ListN.{length, getD}
 use Rattle.lcr_core.specs.Version.{IsVersion, positionsOf}
 use Rattle.marks.specs.Pose.{MarkMove, followed, MarksMoved, markTo, cornerTo, reversedTo, poseAt, agreement, countsOf}
-use Rattle.marks.specs.Correlate.{score, bestOf, byScores, scored}
+use Rattle.marks.specs.Correlate.{score, bestPose, byScores, scored}
 
 -- Demand 3 on marks: for every version, every list of as many marks, every shift by whole quarters, the reversal, and any of these followed
 -- by another.
@@ -38,4 +38,4 @@ pub record ScoreRises : Type 0 where
 pub record BestByScores : Type 0 where
   pub found : (v : ℕ) → IsVersion v → (marks : List Bool)
       → byScores v (countsOf v marks) 8
-      ≡ scored (score v (getD (countsOf v marks) (bestOf (countsOf v marks)) 0)) (bestOf (countsOf v marks))
+      ≡ scored (score v (getD (countsOf v marks) (bestPose (countsOf v marks)) 0)) (bestPose (countsOf v marks))

@@ -23,8 +23,8 @@ bestTo counts zero = 0
 bestTo counts (suc k) = cond (ltb (getD counts (bestTo counts k) 0) (getD counts (suc k) 0)) (suc k) (bestTo counts k)
 
 -- The first greatest of the eight.
-abbrev pub bestOf : List ℕ → ℕ
-bestOf counts = bestTo counts 7
+abbrev pub bestPose : List ℕ → ℕ
+bestPose counts = bestTo counts 7
 
 -- A score with its place among the eight.
 pub record Scored : Type 0 where

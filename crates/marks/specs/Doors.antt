@@ -1,4 +1,4 @@
--- Answers of the doors on marks, with the refusals of document 01's table in its order: 8, a version outside 1..64; 11, marks or lumas not
+-- Answers of the doors on marks, with their refusals in order: 8, a version outside 1..64; 11, marks or lumas not
 -- as many as positions. Definitions only. Assumes nothing.
 use mathlib.Core.Bool.{Bool}
 use mathlib.Core.List.{List, [], _∷_}
@@ -10,7 +10,7 @@ use Rattle.lcr_core.specs.Version.{isVersion, positionsOf}
 use Rattle.laws.specs.Check.{orRefuse}
 use Rattle.laws.specs.Said.{Said, refuse, give}
 use Rattle.marks.specs.Pose.{countsOf}
-use Rattle.marks.specs.Correlate.{bestOf, score}
+use Rattle.marks.specs.Correlate.{bestPose, score}
 use Rattle.marks.specs.Classify.{lights}
 use Rattle.marks.specs.declared.correlate.Best.{Best}
 use Rattle.marks.specs.declared.correlate.Best.the-variants as best
@@ -19,7 +19,7 @@ use Rattle.marks.specs.declared.classify.Classified.the-variants as clas
 
 -- Score, corner and reversal of the first greatest of eight counts: places 0 to 3 are corners forward, 4 to 7 reversed.
 abbrev pub bestAnswer : ℕ → List ℕ → Best
-bestAnswer v counts = best.Pose (score v (getD counts (bestOf counts) 0)) (bestOf counts % 4) (leb 4 (bestOf counts))
+bestAnswer v counts = best.Pose (score v (getD counts (bestPose counts) 0)) (bestPose counts % 4) (leb 4 (bestPose counts))
 
 -- That of some marks.
 abbrev pub markedPose : ℕ → List Bool → Best

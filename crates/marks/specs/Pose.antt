@@ -1,4 +1,4 @@
--- Poses, agreement counts and moves of marks, as document 01 has them under "Poses" of "What demand 3 compares". A pose, 01's term, is a
+-- Poses, agreement counts and moves of marks, by rules 32 and 40. A pose is a
 -- corner r from 0 to 3, forward or reversed. Definitions only. Assumes nothing.
 use mathlib.Core.Path.{_≡_}
 use mathlib.Core.Bool.{Bool, true, false, not, Bool·beq}

@@ -1,12 +1,13 @@
 -- The split of one window of lumas, from `classify` of ring.rs: a threshold that starts at the mean and is moved four times to the middle
 -- between the means of the numbers not above it and of those above it. Sums start from the first term. Definitions only. Assumes nothing.
-use mathlib.Core.Bool.{Bool, _||_, cond}
+use mathlib.Core.Bool.{_||_, cond}
 use mathlib.Core.List.{List}
 use mathlib.Core.Path.{_≡_}
 use Prim.Native.Nat.{ℕ, zero, suc, _-_, _<_}
 use lib.IntN.{pos}
 use lib.Ieee.{Float, nan, binary32, add, div, lt, eq, ofInt, ofBits}
 use lib.ListN.{length, getD}
+use Rattle.ieee.specs.Constants.{1f, 2f}
 use Rattle.marks.specs.declared.split.Sides.{Sides}
 
 -- 0.0 as an `f32`
@@ -14,28 +15,22 @@ abbrev pub 0·0 : Float
 0·0 = ofBits binary32 0
 
 -- 1.0 as an `f32`
-abbrev pub 1·0 : Float
-1·0 = ofBits binary32 0x3f80_0000
-
 -- 2.0 as an `f32`
-abbrev pub 2·0 : Float
-2·0 = ofBits binary32 0x4000_0000
-
 -- The sum of the first n + 1 numbers, from the first on.
 unfoldable pub totalTo : List Float → ℕ → Float
 totalTo w zero = getD w 0 nan
 totalTo w (suc n) = add binary32 (totalTo w n) (getD w (suc n) nan)
 
 -- The mean of a window.
-unfoldable pub mean : List Float → Float
-mean w = div binary32 (totalTo w (length w - 1)) (ofInt binary32 (pos (length w)))
+unfoldable pub splitMean : List Float → Float
+splitMean w = div binary32 (totalTo w (length w - 1)) (ofInt binary32 (pos (length w)))
 
 -- One number put on its side of the threshold t: sum and count of those above it, and of the others.
 unfoldable pub putSide : Float → Float → Sides → Sides
 putSide t x s =
     cond (lt t x)
-    (record { lo = s .lo; ln = s .ln; hi = add binary32 (s .hi) x; hn = add binary32 (s .hn) 1·0 })
-    (record { lo = add binary32 (s .lo) x; ln = add binary32 (s .ln) 1·0; hi = s .hi; hn = s .hn })
+    (record { lo = s .lo; ln = s .ln; hi = add binary32 (s .hi) x; hn = add binary32 (s .hn) 1f })
+    (record { lo = add binary32 (s .lo) x; ln = add binary32 (s .ln) 1f; hi = s .hi; hn = s .hn })
 
 -- Both sides empty.
 abbrev pub noSides : Sides
@@ -50,7 +45,7 @@ sidesTo t w (suc n) = putSide t (getD w n nan) (sidesTo t w n)
 unfoldable pub between : Float → Sides → Float
 between t s =
     cond (eq (s .ln) 0·0 || eq (s .hn) 0·0) t
-    (div binary32 (add binary32 (div binary32 (s .lo) (s .ln)) (div binary32 (s .hi) (s .hn))) 2·0)
+    (div binary32 (add binary32 (div binary32 (s .lo) (s .ln)) (div binary32 (s .hi) (s .hn))) 2f)
 
 -- One round of the split. After a round with an empty side t stays: the Rust ends there.
 unfoldable pub splitRound : List Float → Float → Float
@@ -67,4 +62,4 @@ SameSides w a b n = (i : ℕ) → i < n → lt a (getD w i nan) ≡ lt b (getD w
 
 -- The split of a window: four rounds from its mean.
 unfoldable pub split : List Float → Float
-split w = rounds w 4 (mean w)
+split w = rounds w 4 (splitMean w)

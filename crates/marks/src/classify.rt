@@ -1,7 +1,7 @@
 // Light or dark at each position, by a split of the window round it.
 ghost use mathlib.Core.Path.{_≡_};
 ghost use Prim.Native.Nat.{_<_, _≤_, _+_, _-_};
-ghost use lib.ListN.{length, getD, take};
+ghost use lib.ListN.{length, take};
 ghost use Rattle.laws.specs.Fold.{bit};
 ghost use Rattle.ieee.specs.Ops.{finite};
 ghost use Rattle.marks.specs.Classify.{placeAround, lumaAround, kept, window};
@@ -24,7 +24,7 @@ fn place_around(j: usize, n: usize) -> usize
     requires { ⌜ Ring n ⌝ }
     requires { ⌜ j ≤ n + 32 ⌝ }
     ensures within { λ r. ⌜ r < n ⌝ }
-    ensures { λ r. ⌜ r ≡ placeAround n j ⌝ }
+    ensures answer { λ r. ⌜ r ≡ placeAround n j ⌝ }
 {
     if j < 16 {
         return n + j - 16;
@@ -39,7 +39,7 @@ fn place_around(j: usize, n: usize) -> usize
 fn keep(around: &mut [f32], len: usize, x: f32) -> usize
     requires { ⌜ len < length (now around) ⌝ }
     ensures at_most { λ r. ⌜ r ≤ len + 1 ⌝ }
-    ensures { λ r. ⌜ take r (now (around .exit)) ≡ kept (take len (now (around .entry))) x ⌝ }
+    ensures around { λ r. ⌜ take r (now (around .exit)) ≡ kept (take len (now (around .entry))) x ⌝ }
 {
     if ieee::is_finite(x) {
         around[len] = x;
@@ -142,8 +142,8 @@ fn check(version: u32, lumas: usize, marks: usize) -> Classified
 
 // Light or dark at each position of a version, into the lent marks; a refusal leaves them.
 pub fn classify(version: u32, lumas: &[f32], marks: &mut [bool]) -> Classified
-    ensures { λ r. ⌜ r ≡ classifyAnswer version (now (lumas .entry)) (now (marks .entry)) ⌝ }
-    ensures { λ r. ⌜ now (marks .exit) ≡ marksAfter r (now (lumas .entry)) (now (marks .entry)) ⌝ }
+    ensures answer { λ r. ⌜ r ≡ classifyAnswer version (now (lumas .entry)) (now (marks .entry)) ⌝ }
+    ensures marks { λ r. ⌜ now (marks .exit) ≡ marksAfter r (now (lumas .entry)) (now (marks .entry)) ⌝ }
 {
     let answer = check(version, lumas.len(), marks.len());
     match answer {

@@ -8,7 +8,7 @@ ghost use Rattle.laws.specs.Fold.{bit};
 ghost use Rattle.lcr_core.specs.Version.{IsVersion, positionsOf};
 ghost use Rattle.lcr_core.specs.Mark.{AllMarks};
 ghost use Rattle.marks.specs.Pose.{agreement, countsOf};
-ghost use Rattle.marks.specs.Correlate.{stepFrom, bestOf, score};
+ghost use Rattle.marks.specs.Correlate.{stepFrom, bestPose, score};
 ghost use Rattle.marks.specs.Doors.{markedPose, correlateAnswer, countsBeside};
 use lcr_core::border;
 use lcr_core::version::Version;
@@ -32,7 +32,7 @@ pub struct Correlated {
 // 1 where two marks are equal.
 fn one_if_same(a: bool, b: bool) -> u16
     ensures at_most { λ r. ⌜ r ≤ 1 ⌝ }
-    ensures { λ r. ⌜ r ≡ bit (Bool·beq a b) ⌝ }
+    ensures answer { λ r. ⌜ r ≡ bit (Bool·beq a b) ⌝ }
 {
     if a {
         if b {
@@ -51,7 +51,7 @@ fn next_place(at: usize, n: usize, reversed: bool) -> usize
     requires { ⌜ at < n ⌝ }
     requires { ⌜ n < 4096 ⌝ }
     ensures within { λ r. ⌜ r < n ⌝ }
-    ensures { λ r. ⌜ r ≡ stepFrom at n reversed ⌝ }
+    ensures answer { λ r. ⌜ r ≡ stepFrom at n reversed ⌝ }
 {
     if reversed {
         if at == 0 {
@@ -123,7 +123,7 @@ fn greater_of(counts: [u16; 8], b: usize, k: usize) -> usize
     requires { ⌜ b < 8 ⌝ }
     requires { ⌜ k < 8 ⌝ }
     ensures within { λ r. ⌜ r < 8 ⌝ }
-    ensures { λ r. ⌜ r ≡ cond (ltb (getD counts b 0) (getD counts k 0)) k b ⌝ }
+    ensures answer { λ r. ⌜ r ≡ cond (ltb (getD counts b 0) (getD counts k 0)) k b ⌝ }
 {
     if counts[b] < counts[k] {
         return k;
@@ -134,7 +134,7 @@ fn greater_of(counts: [u16; 8], b: usize, k: usize) -> usize
 // The first place of the greatest count.
 fn best_of(counts: [u16; 8]) -> usize
     ensures within { λ r. ⌜ r < 8 ⌝ }
-    ensures { λ r. ⌜ r ≡ bestOf counts ⌝ }
+    ensures answer { λ r. ⌜ r ≡ bestPose counts ⌝ }
 {
     let mut b: usize = 0;
     let mut k: usize = 1;
@@ -157,8 +157,8 @@ fn score_of(version: Version, count: u16) -> f32
 fn best_pose(marks: &[bool], version: Version) -> Correlated
     requires { ⌜ IsVersion (version .0) ⌝ }
     requires { ⌜ length (now marks) ≡ positionsOf (version .0) ⌝ }
-    ensures { λ r. ⌜ r .best ≡ markedPose (version .0) (now (marks .entry)) ⌝ }
-    ensures { λ r. ⌜ r .counts ≡ countsOf (version .0) (now (marks .entry)) ⌝ }
+    ensures best { λ r. ⌜ r .best ≡ markedPose (version .0) (now (marks .entry)) ⌝ }
+    ensures counts { λ r. ⌜ r .counts ≡ countsOf (version .0) (now (marks .entry)) ⌝ }
 {
     let counts = counts_of(marks, version);
     let b = best_of(counts);
@@ -169,8 +169,8 @@ fn best_pose(marks: &[bool], version: Version) -> Correlated
 
 // The agreement of marks with the sequence of a version. Refusals: 8, then 11.
 pub fn correlate(version: u32, marks: &[bool]) -> Correlated
-    ensures { λ r. ⌜ r .best ≡ correlateAnswer version (now (marks .entry)) ⌝ }
-    ensures { λ r. ⌜ r .counts ≡ countsBeside (r .best) version (now (marks .entry)) ⌝ }
+    ensures best { λ r. ⌜ r .best ≡ correlateAnswer version (now (marks .entry)) ⌝ }
+    ensures counts { λ r. ⌜ r .counts ≡ countsBeside (r .best) version (now (marks .entry)) ⌝ }
 {
     let VersionAnswer::Known(v) = Version::new(version) else {
         return Correlated {

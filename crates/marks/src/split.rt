@@ -92,8 +92,8 @@ fn total(w: &[f32]) -> f32
 
 // 1 where a number is on another side of b than of a, else 0.
 fn differs(x: f32, a: f32, b: f32) -> u32
-    ensures { λ r. ⌜ r ≤ 1 ⌝ }
-    ensures { λ r. ⌜ (r ≡ 0 → lt a x ≡ lt b x) ⌝ }
+    ensures most { λ r. ⌜ r ≤ 1 ⌝ }
+    ensures passed { λ r. ⌜ (r ≡ 0 → lt a x ≡ lt b x) ⌝ }
 {
     if x > a {
         if x > b {

@@ -1,4 +1,4 @@
--- Closed cases of the definitions, by computation: document 01's line on size 1. Assumes nothing.
+-- Closed cases of the definitions, by computation: size 1. Assumes nothing.
 use mathlib.Core.Path.{_≡_, refl}
 use mathlib.Core.List.{[], _∷_}
 use mathlib.Core.Bool.{false}

@@ -1,4 +1,9 @@
--- Lists of +0, and the cases of the doors of equations. Assumes nothing.
+-- Lists of +0, and the cases of the doors of equations.
+--     lists of +0: take-zeros, drop-zeros, zeros-length
+--     lengths: whole-samples
+--     the doors: solve-low, solve-high, solve-matrix, solve-right, solve-pass, fit-low, fit-high, fit-lengths, fit-few, fit-pass,
+--     not-whole, not-many, square8, square4, zeros-cells, zeros-cells4
+-- Assumes nothing.
 use mathlib.Core.Path.{_≡_, refl, sym, ap, _∙_}
 use mathlib.Core.List.{List}
 use mathlib.Core.Bool.{Bool, true, false, cond, _&&_}
@@ -13,16 +18,16 @@ use Rattle.laws.specs.Check.{orRefuse}
 use Rattle.laws.specs.Said.{refuse}
 use Rattle.math.specs.Answers.{solutionSaid}
 use Rattle.math.specs.declared.Solution.{Solution}
-use Rattle.math.specs.Equations.{zeros, without, solution, solveAnswer, normal, fitted, fitAnswer}
+use Rattle.math.specs.Equations.{zeroCells, without, solution, solveAnswer, normal, fitted, fitAnswer}
 
 -- ---- lists of +0
-pub take-zeros : (n m : ℕ) → n ≤ m → take n (zeros m) ≡ zeros n
+pub take-zeros : (n m : ℕ) → n ≤ m → take n (zeroCells m) ≡ zeroCells n
 take-zeros n m h = take-replicate (ofBits binary64 0) n m h
 
-pub drop-zeros : (n m : ℕ) → n ≤ m → drop n (zeros m) ≡ zeros (m - n)
+pub drop-zeros : (n m : ℕ) → n ≤ m → drop n (zeroCells m) ≡ zeroCells (m - n)
 drop-zeros n m h = drop-replicate (ofBits binary64 0) n m h
 
-pub zeros-length : (n m : ℕ) → n ≤ m → n ≡ length (take n (zeros m))
+pub zeros-length : (n m : ℕ) → n ≤ m → n ≡ length (take n (zeroCells m))
 zeros-length n m h = sym (ap length (take-zeros n m h) ∙ length-replicate n (ofBits binary64 0))
 
 -- ---- lengths
@@ -114,8 +119,8 @@ square8 n h = native.Mathlib.Nat.mul-le-mul h h
 pub square4 : (n : ℕ) → n ≤ 4 → n * n ≤ 16
 square4 n h = native.Mathlib.Nat.mul-le-mul h h
 
-pub zeros-cells : (n : ℕ) → n ≤ 8 → n * n ≡ length (take (n * n) (zeros 64))
+pub zeros-cells : (n : ℕ) → n ≤ 8 → n * n ≡ length (take (n * n) (zeroCells 64))
 zeros-cells n h = zeros-length (n * n) 64 (square8 n h)
 
-pub zeros-cells4 : (n : ℕ) → n ≤ 4 → n * n ≡ length (take (n * n) (zeros 16))
+pub zeros-cells4 : (n : ℕ) → n ≤ 4 → n * n ≡ length (take (n * n) (zeroCells 16))
 zeros-cells4 n h = zeros-length (n * n) 16 (square4 n h)

@@ -1,4 +1,4 @@
--- Gaussian elimination of a system of f64 equations, as document 01 has it under "Transform" and math.rs in `solve`: the first greatest
+-- Gaussian elimination of a system of f64 equations, by rules 26 and 27 and math.rs in `solve`: the first greatest
 -- pivot of a column, rows exchanged, a factor of 0 skipped, no solution where a pivot's magnitude is below 1e-12, then back substitution.
 -- A matrix is a list, row by row. Each definition that goes over places counts the steps that are left, d. Definitions only. Assumes
 -- nothing.
@@ -10,7 +10,7 @@ use lib.ListN.{set}
 use lib.Ieee.{Float, binary64, sub, mul, div, lt, eq, ofBits}
 use Rattle.ieee.specs.Ops.{abs}
 use Rattle.ieee.specs.Constants.{1e-12}
-use Rattle.math.specs.Lists.{at, swapped}
+use Rattle.math.specs.Lists.{numberAt, swapped}
 
 -- a matrix and the right side
 pub record System : Type 0 where
@@ -25,7 +25,7 @@ sys a b = record { m = a; v = b }
 unfoldable pub pivotOn : List Float → ℕ → ℕ → ℕ → ℕ → ℕ → ℕ
 unfolding lt abs
 pivotOn a n c zero r p = p
-pivotOn a n c (suc d) r p = pivotOn a n c d (r + 1) (cond (lt (abs (at a (p * n + c))) (abs (at a (r * n + c)))) r p)
+pivotOn a n c (suc d) r p = pivotOn a n c d (r + 1) (cond (lt (abs (numberAt a (p * n + c))) (abs (numberAt a (r * n + c)))) r p)
 
 -- the pivot's row of column c
 abbrev pub pivot : List Float → ℕ → ℕ → ℕ
@@ -39,25 +39,25 @@ swapOn i j (suc d) k a = swapOn i j d (k + 1) (swapped a (i + k) (j + k))
 -- d entries of the row that starts at r, less f times those of the row that starts at c, from column k on
 unfoldable pub rowLess : ℕ → ℕ → Float → ℕ → ℕ → List Float → List Float
 rowLess r c f zero k a = a
-rowLess r c f (suc d) k a = rowLess r c f d (k + 1) (set a (r + k) (sub binary64 (at a (r + k)) (mul binary64 f (at a (c + k)))))
+rowLess r c f (suc d) k a = rowLess r c f d (k + 1) (set a (r + k) (sub binary64 (numberAt a (r + k)) (mul binary64 f (numberAt a (c + k)))))
 
 -- row r with column c eliminated, by the factor f
 abbrev pub freed : ℕ → ℕ → ℕ → Float → System → System
 freed n c r f s =
-    sys (rowLess (r * n) (c * n) f (n - c) c (s .m)) (set (s .v) r (sub binary64 (at (s .v) r) (mul binary64 f (at (s .v) c))))
+    sys (rowLess (r * n) (c * n) f (n - c) c (s .m)) (set (s .v) r (sub binary64 (numberAt (s .v) r) (mul binary64 f (numberAt (s .v) c))))
 
 -- row r with column c eliminated, where the pivot is e; as it was where the factor is 0
-unfoldable pub clear : ℕ → ℕ → Float → ℕ → System → System
+unfoldable pub clearedRow : ℕ → ℕ → Float → ℕ → System → System
 unfolding rowLess div eq
-clear n c e r s =
-    let f = div binary64 (at (s .m) (r * n + c)) e in
+clearedRow n c e r s =
+    let f = div binary64 (numberAt (s .m) (r * n + c)) e in
     cond (eq f (ofBits binary64 0)) s (freed n c r f s)
 
 -- d rows from r on, so
 unfoldable pub clearOn : ℕ → ℕ → Float → ℕ → ℕ → System → System
-unfolding clear
+unfolding clearedRow
 clearOn n c e zero r s = s
-clearOn n c e (suc d) r s = clearOn n c e d (r + 1) (clear n c e r s)
+clearOn n c e (suc d) r s = clearOn n c e d (r + 1) (clearedRow n c e r s)
 
 -- rows c and p exchanged
 unfoldable pub arranged : ℕ → ℕ → ℕ → System → System
@@ -69,7 +69,7 @@ unfoldable pub column : ℕ → ℕ → System → System
 unfolding arranged clearOn pivotOn
 column n c s =
     let t = arranged n c (pivot (s .m) n c) s in
-    clearOn n c (at (t .m) (c * n + c)) (n - (c + 1)) (c + 1) t
+    clearOn n c (numberAt (t .m) (c * n + c)) (n - (c + 1)) (c + 1) t
 
 -- whether every pivot was great enough, and what is left
 pub record Outcome : Type 0 where
@@ -81,19 +81,19 @@ unfoldable pub forwardOn : ℕ → ℕ → ℕ → System → Outcome
 unfolding column lt abs pivotOn
 forwardOn n zero c s = record { ok = true; left = s }
 forwardOn n (suc d) c s =
-    cond (lt (abs (at (s .m) (pivot (s .m) n c * n + c))) 1e-12)
+    cond (lt (abs (numberAt (s .m) (pivot (s .m) n c * n + c))) 1e-12)
     record { ok = false; left = s }
     (forwardOn n d (c + 1) (column n c s))
 
 -- s less the products of the row that starts at w with x, d of them from column k on
 unfoldable pub lessOn : List Float → List Float → ℕ → ℕ → ℕ → Float → Float
 lessOn a x w zero k s = s
-lessOn a x w (suc d) k s = lessOn a x w d (k + 1) (sub binary64 s (mul binary64 (at a (w + k)) (at x k)))
+lessOn a x w (suc d) k s = lessOn a x w d (k + 1) (sub binary64 s (mul binary64 (numberAt a (w + k)) (numberAt x k)))
 
 -- the unknown d, where those after it are in x
 abbrev pub unknown : System → ℕ → ℕ → List Float → Float
 unknown s n d x =
-    div binary64 (lessOn (s .m) x (d * n) (n - (d + 1)) (d + 1) (at (s .v) d)) (at (s .m) (d * n + d))
+    div binary64 (lessOn (s .m) x (d * n) (n - (d + 1)) (d + 1) (numberAt (s .v) d)) (numberAt (s .m) (d * n + d))
 
 -- the unknowns below d, from the last to the first
 unfoldable pub backOn : System → ℕ → ℕ → List Float → List Float

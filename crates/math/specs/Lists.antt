@@ -5,9 +5,9 @@ use lib.ListN.{getD, set}
 use lib.Ieee.{Float, nan}
 
 -- a list's place; a NaN past its end
-abbrev pub at : List Float → ℕ → Float
-at s i = getD s i nan
+abbrev pub numberAt : List Float → ℕ → Float
+numberAt s i = getD s i nan
 
 -- two places exchanged
 abbrev pub swapped : List Float → ℕ → ℕ → List Float
-swapped s i j = set (set s i (at s j)) j (at s i)
+swapped s i j = set (set s i (numberAt s j)) j (numberAt s i)

@@ -2,8 +2,8 @@
 ghost use mathlib.Core.Path.{_≡_};
 ghost use Prim.Native.Nat.{_+_, _-_, _*_, _<_, _≤_};
 ghost use lib.ListN.{length};
-ghost use Rattle.math.specs.Lists.{at};
-ghost use Rattle.math.specs.Elimination.{sys, pivot, swapOn, rowLess, clear, clearOn};
+ghost use Rattle.math.specs.Lists.{numberAt};
+ghost use Rattle.math.specs.Elimination.{sys, pivot, swapOn, rowLess, clearedRow, clearOn};
 ghost use Rattle.math.specs.Elimination.{arranged, forwardOn, lessOn, backOn};
 
 // The row from column c's diagonal on whose entry in column c is greatest in magnitude.
@@ -63,7 +63,7 @@ fn clear_row(a: &mut [f64], b: &mut [f64], n: usize, c: usize, d: f64, r: usize)
     requires { ⌜ n * n ≤ length (now a) ⌝ }
     requires { ⌜ n ≤ length (now b) ⌝ }
     ensures { λ _. ⌜ sys (now (a .exit)) (now (b .exit))
-        ≡ clear n c d r (sys (now (a .entry)) (now (b .entry))) ⌝ }
+        ≡ clearedRow n c d r (sys (now (a .entry)) (now (b .entry))) ⌝ }
 {
     let f = a[r * n + c] / d;
     if f == 0.0 {
@@ -80,7 +80,7 @@ fn clear_below(a: &mut [f64], b: &mut [f64], n: usize, c: usize)
     requires { ⌜ n * n ≤ length (now a) ⌝ }
     requires { ⌜ n ≤ length (now b) ⌝ }
     ensures { λ _. ⌜ sys (now (a .exit)) (now (b .exit))
-        ≡ clearOn n c (at (now (a .entry)) (c * n + c)) (n - (c + 1)) (c + 1)
+        ≡ clearOn n c (numberAt (now (a .entry)) (c * n + c)) (n - (c + 1)) (c + 1)
         (sys (now (a .entry)) (now (b .entry))) ⌝ }
 {
     let d = a[c * n + c];

@@ -3,7 +3,7 @@ ghost use mathlib.Core.Path.{_≡_};
 ghost use Prim.Native.Nat.{_+_, _*_, _<_, _≤_};
 ghost use lib.ListN.{length};
 ghost use Rattle.math.specs.Elimination.{sys};
-ghost use Rattle.math.specs.Equations.{zeros, solution, addCells, addLines, addRows};
+ghost use Rattle.math.specs.Equations.{zeroCells, solution, addCells, addLines, addRows};
 ghost use Rattle.math.specs.Equations.{nudged, normal};
 
 // Copies a list to one of as many places.
@@ -144,8 +144,8 @@ pub(crate) fn fit(
     n: usize,
 ) -> crate::Solution
     requires { ⌜ n ≤ 8 ⌝ }
-    requires { ⌜ now m ≡ zeros (n * n) ⌝ }
-    requires { ⌜ now v ≡ zeros n ⌝ }
+    requires { ⌜ now m ≡ zeroCells (n * n) ⌝ }
+    requires { ⌜ now v ≡ zeroCells n ⌝ }
     requires { ⌜ length (now basis) ≡ length (now targets) * n ⌝ }
     ensures { λ r. ⌜ r ≡ solution n (normal n (now (basis .entry)) (now (targets .entry)) .m)
         (normal n (now (basis .entry)) (now (targets .entry)) .v) ⌝ }

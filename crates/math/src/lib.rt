@@ -10,7 +10,7 @@ ghost use Rattle.math.specs.Equations.{solveAnswer, fitAnswer};
 
 // What a door of equations answers.
 pub enum Found {
-    // document 01's number of a refusal
+    // the number of a refusal
     Refused(u8),
     // no solution
     Nothing,

@@ -1,4 +1,8 @@
 -- That a median of usable values is no NaN, and that the distances from it can be ordered; and the doors' checks.
+--     the values after a selection: odd-no-nan, even-no-nan, none-no-nan
+--     distances: away-numbers
+--     the doors: refuse-9, refuse-10, pass
+--     the working list: work-length, spread-is
 -- Assumes nothing.
 use mathlib.Core.Path.{_≡_, refl, sym, ap, _∙_, subst}
 use mathlib.Core.List.{List, map}
@@ -9,42 +13,17 @@ use lib.IntN.{ℤ, negsuc}
 use lib.Dec.{T, ltb}
 use lib.ListN.{length, getD, take, replicate, length-replicate, length-map, List·getD-map}
 use lib.Seq.{length-take-le}
-use lib.Ieee.{
-  Float,
-  Format,
-  nan,
-  inf,
-  fin,
-  binary32,
-  fits,
-  isNan,
-  round,
-  units,
-  odd,
-  low,
-  prec,
-  emax,
-  sum,
-  add,
-  sub,
-  neg,
-  mul,
-  ofBits,
-  up,
-  down,
-  unlike,
-}
+use lib.Ieee.{Float, Format, nan, inf, fin, binary32, fits, isNan, round, units, odd, low, prec, emax, sum, add, sub, neg, mul, ofBits, up, down, unlike}
 use lib.Ieee.Fits.{sub-fits}
 use borrow.Author.Tests.{le-leb, lt-leb}
-use Rattle.ieee.specs.Ops.{abs, finite}
-use Rattle.math.specs.Lists.{at}
-use Rattle.ieee.specs.Ops.{plain}
-use Rattle.ieee.specs.Constants.{1·4826}
-use Rattle.medians.specs.Median.{SameValues, half, median, usable, allUsable, bad, Numbers, away, madSigma}
+use Rattle.laws.proofs.Bools.{and-left, not-false}
+use Rattle.ieee.specs.Ops.{abs, finite, plain}
+use Rattle.math.specs.Lists.{numberAt}
+use Rattle.ieee.specs.Constants.{1·4826, 0·5}
+use Rattle.medians.specs.Median.{SameValues, median, usable, allUsable, isBad, Numbers, away, madSigma, checked}
 use Rattle.laws.specs.Check.{orRefuse}
 use Rattle.laws.specs.Said.{Said, refuse}
-use Rattle.medians.specs.Select.{Selected, Largest}
-use Rattle.medians.specs.Median.{checked}
+use Rattle.medians.specs.Inner.{Selected, Largest}
 use Rattle.medians.proofs.Order.{Good, good-of}
 use Rattle.medians.proofs.Counts.{none-all, none-at, none-same}
 use Rattle.medians.proofs.Usable.{usable-at}
@@ -109,16 +88,12 @@ scaled-number f s e nan h = h
 scaled-number f s e (inf t) h = refl
 scaled-number f s e (fin t n d) h = round-number f (unlike s t) (1 * up e * (n * up d)) (down e * down d)
 
-half-is : half ≡ fin false 1 (negsuc 0)
+half-is : 0·5 ≡ fin false 1 (negsuc 0)
 unfolding ofBits
 half-is = refl
 
-half-number : (x : Float) → isNan x ≡ false → isNan (mul binary32 half x) ≡ false
+half-number : (x : Float) → isNan x ≡ false → isNan (mul binary32 0·5 x) ≡ false
 half-number x h = ap (λ (y : Float). isNan (mul binary32 y x)) half-is ∙ scaled-number binary32 false (negsuc 0) x h
-
-and-left : (a b : Bool) → (a && b) ≡ true → a ≡ true
-and-left true b h = refl
-and-left false b h = h
 
 usable-finite : (x : Float) → usable x ≡ true → finite x ≡ true
 unfolding usable
@@ -128,23 +103,19 @@ usable-finite x h = and-left (finite x) (plain x) h
 unusable : Float → Bool
 unusable x = not (usable x)
 
-not-back : (b : Bool) → not b ≡ false → b ≡ true
-not-back true h = refl
-not-back false h = absurd (true≢false h)
-
-still-finite : (s t : List Float) → allUsable s ≡ true → SameValues s t → (x : ℕ) → x < length t → finite (at t x) ≡ true
+still-finite : (s t : List Float) → allUsable s ≡ true → SameValues s t → (x : ℕ) → x < length t → finite (numberAt t x) ≡ true
 unfolding unusable
 still-finite s t h q x l =
-    usable-finite (at t x)
-    (not-back _ (none-at unusable t (none-same unusable s t q (none-all unusable s (λ y m. ap not (usable-at s h y m)))) x l))
+    usable-finite (numberAt t x)
+    (not-false _ (none-at unusable t (none-same unusable s t q (none-all unusable s (λ y m. ap not (usable-at s h y m)))) x l))
 
 pub odd-no-nan : (s t : List Float) (k : ℕ) (r : Float) → k < length s → Selected s t k r → allUsable s ≡ true → isNan r ≡ false
 odd-no-nan s t k r h c a = ap isNan (c .is) ∙ finite-number _ (still-finite s t a (c .same) k (omega (arith, c .long)))
 
 pub even-no-nan : (s t : List Float) (k : ℕ) (r y : Float) → k < length s → Selected s t k r → Largest t k y → allUsable s ≡ true
-    → isNan (mul binary32 half (add binary32 y r)) ≡ false
+    → isNan (mul binary32 0·5 (add binary32 y r)) ≡ false
 even-no-nan s t k r y h c l a =
-    let f : finite (at t (l .place)) ≡ true = still-finite s t a (c .same) (l .place) (omega (arith, l .within, c .long)) in
+    let f : finite (numberAt t (l .place)) ≡ true = still-finite s t a (c .same) (l .place) (omega (arith, l .within, c .long)) in
     half-number _ (add-number binary32 y r (ap finite (sym (l .is)) ∙ f) (odd-no-nan s t k r h c a))
 
 zero-number : isNan (ofBits binary32 0) ≡ false
@@ -179,11 +150,11 @@ away-nan c = refl
 pub away-numbers : (s : List Float) (c : Float) → allUsable s ≡ true → isNan c ≡ false → Numbers (map (away c) s)
 unfolding Numbers
 away-numbers s c h k =
-    none-all bad (map (away c) s) (λ x l.
+    none-all isBad (map (away c) s) (λ x l.
     let m : x < length s = subst (λ (n : ℕ). x < n) (length-map s (away c)) l in
-    let e : at (map (away c) s) x ≡ away c (at s x) =
+    let e : numberAt (map (away c) s) x ≡ away c (numberAt s x) =
     ap (λ (d : Float). getD (map (away c) s) x d) (sym (away-nan c)) ∙ List·getD-map (away c) s x nan in
-    ap bad e ∙ away-good c (at s x) (usable-finite (at s x) (usable-at s h x m)) k)
+    ap isBad e ∙ away-good c (numberAt s x) (usable-finite (numberAt s x) (usable-at s h x m)) k)
 
 -- ---- the doors
 pub refuse-9 : (s : List Float) (a : Said Float) → 4096 < length s → refuse 9 ≡ checked s a

@@ -1,5 +1,7 @@
--- `<` on `f32` values that are neither NaN nor -0 is a strict total order, infinities included.
--- Here: lt-irrefl and lt-asym (of any values), lt-trans, lt-same, le-trans, le-lt. Assumes nothing.
+-- `<` on `f32` values that are neither NaN nor -0 is a strict total order, infinities included. Here: lt-irrefl and lt-asym (of any
+-- values), lt-trans, lt-same, le-trans, le-lt.
+--     lt-irrefl, lt-asym, Good, good-fits, good-plain, good-of, lt-trans, lt-same, le-trans, le-lt
+-- Assumes nothing.
 use mathlib.Core.Path.{_≡_, refl, sym, ap, _∙_, subst}
 use mathlib.Core.Bool.{Bool, true, false, not, _&&_, true≢false, false≢true}
 use Prim.Native.Nat.{ℕ, _*_, _≤_, _<_}
@@ -11,7 +13,7 @@ use lib.Ieee.Fits.{and-l, and-r}
 use lib.Ieee.Bits.{is-true, is-false}
 use Rattle.ieee.proofs.Orders as fx
 use Rattle.ieee.specs.Ops.{plain}
-use Rattle.medians.specs.Median.{bad}
+use Rattle.medians.specs.Median.{isBad}
 
 T-of : {b : Bool} → b ≡ true → T b
 T-of e = subst T (sym e) tt
@@ -55,14 +57,14 @@ lt-asym (fin s m e) (fin t n d) h = below-asym s (m * up e * down d) t (n * up d
 
 -- a value that is to be ordered
 abbrev pub Good : Float → Type 0
-Good x = bad x ≡ false
+Good x = isBad x ≡ false
 
 not-back : (b : Bool) → not b ≡ false → T b
 not-back true h = tt
 not-back false h = absurd (true≢false h)
 
 held : (x : Float) → Good x → T (fits binary32 x && plain x)
-unfolding bad
+unfolding isBad
 held x g = not-back (fits binary32 x && plain x) g
 
 pub good-fits : (x : Float) → Good x → T (fits binary32 x)
@@ -72,7 +74,7 @@ pub good-plain : (x : Float) → Good x → T (plain x)
 good-plain x g = and-r (fits binary32 x) (plain x) (held x g)
 
 pub good-of : (x : Float) → T (fits binary32 x) → T (plain x) → Good x
-unfolding bad
+unfolding isBad
 good-of x f p = ap not (is-true (fits binary32 x && plain x) (lib.Ieee.Fits.and-i (fits binary32 x) (plain x) f p))
 
 trans-by : (x y z : Float) → T (fits binary32 x) → T (fits binary32 y) → T (fits binary32 z) → T (plain x) → T (plain y) → T (plain z)

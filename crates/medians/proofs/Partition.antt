@@ -13,9 +13,9 @@ use lib.ListN.{length, set, length-set}
 use lib.Seq.{getD-set-same, getD-set-other}
 use lib.Ieee.{Float, nan, lt}
 use Rattle.ieee.proofs.Values.{lt-or-ge}
-use Rattle.math.specs.Lists.{at, swapped}
+use Rattle.math.specs.Lists.{numberAt, swapped}
 use Rattle.medians.specs.Median.{SameValues}
-use Rattle.medians.specs.Select.{Stop, Floor, Risen, Sunk, Round, fresh, going, Parting, Turned, Parted}
+use Rattle.medians.specs.Inner.{Stop, Floor, Risen, Sunk, Round, fresh, going, Parting, Turned, Parted}
 use Rattle.medians.proofs.Order.{lt-irrefl, lt-asym}
 use Rattle.medians.proofs.Counts.{same-refl, swap-same}
 
@@ -43,20 +43,20 @@ passed-less P e f z h q x l m = go (lt-or-ge x e)
     go (inr k) = h x k m
 
 -- the stop of a walk lies farther on than a value that is passed
-pub stop-on : (s : List Float) (i : ℕ) (p : Float) → Stop s i p → lt (at s i) p ≡ true → Stop s (i + 1) p
+pub stop-on : (s : List Float) (i : ℕ) (p : Float) → Stop s i p → lt (numberAt s i) p ≡ true → Stop s (i + 1) p
 stop-on s i p t h = go (eq-or-lt-of-le (t .from))
   where
     go : (i ≡ t .place) ⊎ (i < t .place) → Stop s (i + 1) p
-    go (inl e) = absurd (true≢false (sym h ∙ ap (λ (j : ℕ). lt (at s j) p) e ∙ t .holds))
+    go (inl e) = absurd (true≢false (sym h ∙ ap (λ (j : ℕ). lt (numberAt s j) p) e ∙ t .holds))
     go (inr l) = record { place = t .place; from = omega arith; within = t .within; holds = t .holds }
 
-pub floor-on : (s : List Float) (e : ℕ) (p : Float) → Floor s e p → lt p (at s (e - 1)) ≡ true → Floor s (e - 1) p
+pub floor-on : (s : List Float) (e : ℕ) (p : Float) → Floor s e p → lt p (numberAt s (e - 1)) ≡ true → Floor s (e - 1) p
 floor-on s e p t h = go (lt-or-ge (t .place) (e - 1))
   where
     go : (t .place < e - 1) ⊎ (e - 1 ≤ t .place) → Floor s (e - 1) p
     go (inl l) = record { place = t .place; before = l; holds = t .holds }
     go (inr l) = let b = t .before in let g : e - 1 ≡ t .place =
-        omega arith in absurd (true≢false (sym h ∙ ap (λ (j : ℕ). lt p (at s j)) g ∙ t .holds))
+        omega arith in absurd (true≢false (sym h ∙ ap (λ (j : ℕ). lt p (numberAt s j)) g ∙ t .holds))
 
 -- ---- a round
 pub parting-stop : (s : List Float) (p : Float) (i e : ℕ) → i < e → Parting s p i e → Stop s i p
@@ -73,20 +73,20 @@ parting-floor s p i e l t = go (t .round)
     go (fresh m w q a b) = record { place = m; before = omega arith; holds = ap (lt p) q ∙ lt-irrefl p }
     go (going a b) = record { place = i - 1; before = omega arith; holds = t .low (i - 1) (omega arith) }
 
-low-on : (s : List Float) (p : Float) (i a : ℕ) → ((x : ℕ) → x < i → lt p (at s x) ≡ false)
-    → ((x : ℕ) → i ≤ x → x < a → lt (at s x) p ≡ true) → (x : ℕ) → x < a → lt p (at s x) ≡ false
+low-on : (s : List Float) (p : Float) (i a : ℕ) → ((x : ℕ) → x < i → lt p (numberAt s x) ≡ false)
+    → ((x : ℕ) → i ≤ x → x < a → lt (numberAt s x) p ≡ true) → (x : ℕ) → x < a → lt p (numberAt s x) ≡ false
 low-on s p i a h k x l = go (lt-or-ge x i)
   where
-    go : (x < i) ⊎ (i ≤ x) → lt p (at s x) ≡ false
+    go : (x < i) ⊎ (i ≤ x) → lt p (numberAt s x) ≡ false
     go (inl m) = h x m
-    go (inr m) = lt-asym (at s x) p (k x m l)
+    go (inr m) = lt-asym (numberAt s x) p (k x m l)
 
-high-on : (s : List Float) (p : Float) (e b : ℕ) → ((x : ℕ) → e ≤ x → x < length s → lt (at s x) p ≡ false)
-    → ((x : ℕ) → b ≤ x → x < e → lt p (at s x) ≡ true) → (x : ℕ) → b ≤ x → x < length s → lt (at s x) p ≡ false
+high-on : (s : List Float) (p : Float) (e b : ℕ) → ((x : ℕ) → e ≤ x → x < length s → lt (numberAt s x) p ≡ false)
+    → ((x : ℕ) → b ≤ x → x < e → lt p (numberAt s x) ≡ true) → (x : ℕ) → b ≤ x → x < length s → lt (numberAt s x) p ≡ false
 high-on s p e b h k x l m = go (lt-or-ge x e)
   where
-    go : (x < e) ⊎ (e ≤ x) → lt (at s x) p ≡ false
-    go (inl n) = lt-asym p (at s x) (k x l n)
+    go : (x < e) ⊎ (e ≤ x) → lt (numberAt s x) p ≡ false
+    go (inl n) = lt-asym p (numberAt s x) (k x l n)
     go (inr n) = h x n m
 
 pub turn-stop : (s : List Float) (p : Float) (i e a b : ℕ) → i < e → Parting s p i e → Risen s i p a → Sunk s e p b → b ≤ a
@@ -104,7 +104,7 @@ turn-stop s p i e a b l t u d h = record {
 }
   where
     -- the pivot's own place stops both walks
-    early : (m : ℕ) → at s m ≡ p → i ≤ m → m < e → ⊥
+    early : (m : ℕ) → numberAt s m ≡ p → i ≤ m → m < e → ⊥
     early m q v w = side (lt-or-ge m a)
       where
         side : (m < a) ⊎ (a ≤ m) → ⊥
@@ -116,27 +116,27 @@ turn-stop s p i e a b l t u d h = record {
     go (going x y) = going (omega (arith, u .from)) (omega (arith, d .upto))
 
 -- the two places exchanged
-at-first : (s : List Float) (a d : ℕ) → a < length s → d < length s → at (swapped s a d) a ≡ at s d
+at-first : (s : List Float) (a d : ℕ) → a < length s → d < length s → numberAt (swapped s a d) a ≡ numberAt s d
 at-first s a d h l = go (lt-or-ge a d) (lt-or-ge d a)
   where
-    go : (a < d) ⊎ (d ≤ a) → (d < a) ⊎ (a ≤ d) → at (swapped s a d) a ≡ at s d
-    go (inl k) w = getD-set-other (set s a (at s d)) d a (at s a) nan (λ e. no a d k e) ∙ getD-set-same s a (at s d) nan h
+    go : (a < d) ⊎ (d ≤ a) → (d < a) ⊎ (a ≤ d) → numberAt (swapped s a d) a ≡ numberAt s d
+    go (inl k) w = getD-set-other (set s a (numberAt s d)) d a (numberAt s a) nan (λ e. no a d k e) ∙ getD-set-same s a (numberAt s d) nan h
       where
         no : (a d : ℕ) → a < d → a ≡ d → ⊥
         no a d k e = omega arith
-    go (inr k) (inl w) = getD-set-other (set s a (at s d)) d a (at s a) nan (λ e. no a d w e) ∙ getD-set-same s a (at s d) nan h
+    go (inr k) (inl w) = getD-set-other (set s a (numberAt s d)) d a (numberAt s a) nan (λ e. no a d w e) ∙ getD-set-same s a (numberAt s d) nan h
       where
         no : (a d : ℕ) → d < a → a ≡ d → ⊥
         no a d k e = omega arith
     go (inr k) (inr w) = let e : d ≡ a =
-        omega arith in ap (at (swapped s a d)) (sym e) ∙ getD-set-same (set s a (at s d)) d (at s a) nan (simp length-set l)
-        ∙ ap (at s) (sym e)
+        omega arith in ap (numberAt (swapped s a d)) (sym e) ∙ getD-set-same (set s a (numberAt s d)) d (numberAt s a) nan (simp length-set l)
+        ∙ ap (numberAt s) (sym e)
 
-at-second : (s : List Float) (a d : ℕ) → d < length s → at (swapped s a d) d ≡ at s a
-at-second s a d l = getD-set-same (set s a (at s d)) d (at s a) nan (simp length-set l)
+at-second : (s : List Float) (a d : ℕ) → d < length s → numberAt (swapped s a d) d ≡ numberAt s a
+at-second s a d l = getD-set-same (set s a (numberAt s d)) d (numberAt s a) nan (simp length-set l)
 
-at-other : (s : List Float) (a d x : ℕ) → (x ≡ a → ⊥) → (x ≡ d → ⊥) → at (swapped s a d) x ≡ at s x
-at-other s a d x h k = getD-set-other (set s a (at s d)) d x (at s a) nan k ∙ getD-set-other s a x (at s d) nan h
+at-other : (s : List Float) (a d x : ℕ) → (x ≡ a → ⊥) → (x ≡ d → ⊥) → numberAt (swapped s a d) x ≡ numberAt s x
+at-other s a d x h k = getD-set-other (set s a (numberAt s d)) d x (numberAt s a) nan k ∙ getD-set-other s a x (numberAt s d) nan h
 
 pub turn-swap : (s : List Float) (p : Float) (i e a b : ℕ) → i < e → Parting s p i e → Risen s i p a → Sunk s e p b → a < b
     → Turned s (swapped s a (b - 1)) p i e (a + 1) (b - 1)
@@ -158,7 +158,7 @@ turn-swap s p i e a b l t u f h = record {
     inside : b - 1 < length s
     inside = let z = f .upto in let y = t .e-in in let w = f .some in omega arith
 
-    low : (x : ℕ) → x < a + 1 → lt p (at (swapped s a (b - 1)) x) ≡ false
+    low : (x : ℕ) → x < a + 1 → lt p (numberAt (swapped s a (b - 1)) x) ≡ false
     low x k = go (lt-or-ge x a)
       where
         ne : (a b x y : ℕ) → x < a → a < b → y ≡ b - 1 → x ≡ y → ⊥
@@ -167,13 +167,13 @@ turn-swap s p i e a b l t u f h = record {
         ne′ : (a x : ℕ) → x < a → x ≡ a → ⊥
         ne′ a x h e = omega arith
 
-        go : (x < a) ⊎ (a ≤ x) → lt p (at (swapped s a (b - 1)) x) ≡ false
+        go : (x < a) ⊎ (a ≤ x) → lt p (numberAt (swapped s a (b - 1)) x) ≡ false
         go (inl m) = ap (lt p) (at-other s a (b - 1) x (ne′ a x m) (ne a b x (b - 1) m h refl)) ∙ low-on s p i a (t .low) (u .passed) x m
         go (inr m) = let q : x ≡ a =
-            omega arith in ap (λ (x : ℕ). lt p (at (swapped s a (b - 1)) x)) q ∙ ap (lt p) (at-first s a (b - 1) (u .within) inside)
+            omega arith in ap (λ (x : ℕ). lt p (numberAt (swapped s a (b - 1)) x)) q ∙ ap (lt p) (at-first s a (b - 1) (u .within) inside)
             ∙ f .stops
 
-    high : (x : ℕ) → b - 1 ≤ x → x < length s → lt (at (swapped s a (b - 1)) x) p ≡ false
+    high : (x : ℕ) → b - 1 ≤ x → x < length s → lt (numberAt (swapped s a (b - 1)) x) p ≡ false
     high x v w = go (lt-or-ge x b)
       where
         ne : (a b x : ℕ) → b ≤ x → a < b → x ≡ a → ⊥
@@ -182,15 +182,15 @@ turn-swap s p i e a b l t u f h = record {
         ne′ : (b x : ℕ) → b ≤ x → 0 < b → x ≡ b - 1 → ⊥
         ne′ b x h k e = omega arith
 
-        go : (x < b) ⊎ (b ≤ x) → lt (at (swapped s a (b - 1)) x) p ≡ false
+        go : (x < b) ⊎ (b ≤ x) → lt (numberAt (swapped s a (b - 1)) x) p ≡ false
         go (inl m) = let q : x ≡ b - 1 =
-            omega arith in ap (λ (x : ℕ). lt (at (swapped s a (b - 1)) x) p) q ∙ ap (λ (y : Float). lt y p) (at-second s a (b - 1) inside)
+            omega arith in ap (λ (x : ℕ). lt (numberAt (swapped s a (b - 1)) x) p) q ∙ ap (λ (y : Float). lt y p) (at-second s a (b - 1) inside)
             ∙ u .stops
         go (inr m) = ap (λ (y : Float). lt y p) (at-other s a (b - 1) x (ne a b x m h) (ne′ b x m (f .some)))
             ∙ high-on s p e b (t .high) (f .passed) x m w
 
 -- ---- a partition
-pub part-begin : (s : List Float) (m : ℕ) → m < length s → Parting s (at s m) 0 (length s)
+pub part-begin : (s : List Float) (m : ℕ) → m < length s → Parting s (numberAt s m) 0 (length s)
 part-begin s m h = record {
   i-in = omega arith;
   e-in = omega arith;
@@ -205,7 +205,7 @@ part-begin s m h = record {
     past : (x n : ℕ) → n ≤ x → x < n → ⊥
     past x n h l = omega arith
 
-pub part-end : (s t : List Float) (m i e : ℕ) → m < length s → SameValues s t → length t ≡ length s → Parting t (at s m) i e → e ≤ i
+pub part-end : (s t : List Float) (m i e : ℕ) → m < length s → SameValues s t → length t ≡ length s → Parting t (numberAt s m) i e → e ≤ i
     → Parted s t i e
 part-end s t m i e h same long p q = record {
   same = same;
@@ -220,6 +220,6 @@ part-end s t m i e h same long p q = record {
   i-in = omega (arith, p .i-in);
 }
   where
-    begun : Round t (at s m) i e → (0 < i) × (e < length s)
+    begun : Round t (numberAt s m) i e → (0 < i) × (e < length s)
     begun (fresh x w z a b) = (omega arith, omega arith)
     begun (going a b) = (a, omega arith)

@@ -12,49 +12,38 @@ use lib.ListN.{length, take, drop, length-append, length-take, length-drop, List
 use lib.Seq.{getD-take, getD-drop, getD-append-add, length-take-le, take-all}
 use lib.Ieee.{Float, nan, lt}
 use Rattle.ieee.proofs.Values.{lt-or-ge}
-use Rattle.math.specs.Lists.{at}
+use Rattle.math.specs.Lists.{numberAt}
 use Rattle.medians.specs.Median.{under, over, Numbers}
-use Rattle.medians.specs.Select.{Parted, Selected}
+use Rattle.medians.specs.Inner.{Parted, Selected}
 use Rattle.medians.proofs.Order.{Good, lt-irrefl, le-trans}
-use Rattle.medians.proofs.Counts.{
-  none-at,
-  none-all,
-  same-refl,
-  same-trans,
-  none-same,
-  same-front,
-  same-back,
-  number-at,
-  same-numbers,
-  numbers-drop,
-}
+use Rattle.medians.proofs.Counts.{none-at, none-all, same-refl, same-trans, none-same, same-front, same-back, number-at, same-numbers, numbers-drop}
 
 -- ---- a selection
-pub select-one : (s : List Float) (k : ℕ) → k < length s → length s ≤ 1 → Selected s s k (at s k)
+pub select-one : (s : List Float) (k : ℕ) → k < length s → length s ≤ 1 → Selected s s k (numberAt s k)
 select-one s k h l =
     record { same = same-refl s; long = refl; is = refl; before = λ x m. absurd (none k x (length s) m h l); after = after }
   where
     none : (k x n : ℕ) → x < k → k < n → n ≤ 1 → ⊥
     none k x n a b c = omega arith
 
-    after : (x : ℕ) → k ≤ x → x < length s → lt (at s x) (at s k) ≡ false
-    after x m n = let e : x ≡ k = omega arith in ap (λ (j : ℕ). lt (at s j) (at s k)) e ∙ lt-irrefl (at s k)
+    after : (x : ℕ) → k ≤ x → x < length s → lt (numberAt s x) (numberAt s k) ≡ false
+    after x m n = let e : x ≡ k = omega arith in ap (λ (j : ℕ). lt (numberAt s j) (numberAt s k)) e ∙ lt-irrefl (numberAt s k)
 
 module _ (s t : List Float) (i e : ℕ) (n : Numbers s) (d : Parted s t i e) where
   pivot : Float
-  pivot = at s (d .place)
+  pivot = numberAt s (d .place)
 
-  pivot-good : Good (at s (d .place))
+  pivot-good : Good (numberAt s (d .place))
   pivot-good = number-at s n (d .place) (d .within)
 
   numbers : Numbers t
   numbers = same-numbers s t (d .same) n
 
-  good : (x : ℕ) → x < length t → Good (at t x)
+  good : (x : ℕ) → x < length t → Good (numberAt t x)
   good x h = number-at t numbers x h
 
   -- between the two ends all are equal to the pivot
-  pub select-mid : (k : ℕ) → k < length s → e ≤ k → k < i → Selected s t k (at t k)
+  pub select-mid : (k : ℕ) → k < length s → e ≤ k → k < i → Selected s t k (numberAt t k)
   select-mid k h l m =
       let w : k < length t = omega (arith, d .long) in
       record {
@@ -62,9 +51,9 @@ module _ (s t : List Float) (i e : ℕ) (n : Numbers s) (d : Parted s t i e) whe
         long = d .long;
         is = refl;
         before = λ x q. let y : x < length t =
-            omega arith in le-trans (at t x) (at s (d .place)) (at t k) (good x y) pivot-good (good k w) (d .low x (omega arith))
+            omega arith in le-trans (numberAt t x) (numberAt s (d .place)) (numberAt t k) (good x y) pivot-good (good k w) (d .low x (omega arith))
             (d .high k l w);
-        after = λ x q y. le-trans (at t k) (at s (d .place)) (at t x) (good k w) pivot-good (good x y) (d .low k m)
+        after = λ x q y. le-trans (numberAt t k) (numberAt s (d .place)) (numberAt t x) (good k w) pivot-good (good x y) (d .low k m)
             (d .high x (omega arith) y);
       }
 
@@ -81,14 +70,14 @@ module _ (s t : List Float) (i e : ℕ) (n : Numbers s) (d : Parted s t i e) whe
         after = λ x q y. past x q (omega arith) (lt-or-ge x e) len;
       }
     where
-      high-u : (x : ℕ) → x < length u → lt (at s (d .place)) (at u x) ≡ false
-      high-u x h = none-at (over (at s (d .place))) u
-          (none-same (over (at s (d .place))) (take e t) u (c .same) (none-all (over (at s (d .place))) (take e t) inside)) x h
+      high-u : (x : ℕ) → x < length u → lt (numberAt s (d .place)) (numberAt u x) ≡ false
+      high-u x h = none-at (over (numberAt s (d .place))) u
+          (none-same (over (numberAt s (d .place))) (take e t) u (c .same) (none-all (over (numberAt s (d .place))) (take e t) inside)) x h
         where
-          inside : (x : ℕ) → x < length (take e t) → lt (at s (d .place)) (at (take e t) x) ≡ false
+          inside : (x : ℕ) → x < length (take e t) → lt (numberAt s (d .place)) (numberAt (take e t) x) ≡ false
           inside x l =
               let m : x < e = omega (arith, length-take e t) in
-              ap (lt (at s (d .place))) (getD-take e t x nan m) ∙ d .low x (omega (arith, d .meet))
+              ap (lt (numberAt s (d .place))) (getD-take e t x nan m) ∙ d .low x (omega (arith, d .meet))
 
       r-good : length u ≡ e → Good r
       r-good q =
@@ -96,16 +85,16 @@ module _ (s t : List Float) (i e : ℕ) (n : Numbers s) (d : Parted s t i e) whe
           (omega arith) in
           subst Good (sym (c .is)) g
 
-      past : (x : ℕ) → k ≤ x → x < length t → (x < e) ⊎ (e ≤ x) → length u ≡ e → lt (at (u ++ drop e t) x) r ≡ false
+      past : (x : ℕ) → k ≤ x → x < length t → (x < e) ⊎ (e ≤ x) → length u ≡ e → lt (numberAt (u ++ drop e t) x) r ≡ false
       past x q y (inl l) z = ap (λ (w : Float). lt w r) (List·getD-append u (drop e t) nan x (omega arith)) ∙ c .after x q (omega arith)
       past x q y (inr l) z =
           let j : x ≡ length u + (x - e) = omega arith in
           let o : e + (x - e) ≡ x = omega arith in
-          let f : at (u ++ drop e t) x ≡ at t x =
-          ap (at (u ++ drop e t)) j ∙ getD-append-add u (drop e t) (x - e) nan ∙ getD-drop e t (x - e) nan ∙ ap (at t) o in
+          let f : numberAt (u ++ drop e t) x ≡ numberAt t x =
+          ap (numberAt (u ++ drop e t)) j ∙ getD-append-add u (drop e t) (x - e) nan ∙ getD-drop e t (x - e) nan ∙ ap (numberAt t) o in
           ap (λ (w : Float). lt w r) f
-          ∙ le-trans r (at s (d .place)) (at t x) (r-good z) pivot-good (good x y)
-          (ap (lt (at s (d .place))) (c .is) ∙ high-u k (omega arith)) (d .high x l y)
+          ∙ le-trans r (numberAt s (d .place)) (numberAt t x) (r-good z) pivot-good (good x y)
+          (ap (lt (numberAt s (d .place))) (c .is) ∙ high-u k (omega arith)) (d .high x l y)
 
   -- in the back part
   pub select-back : (u : List Float) (k : ℕ) (r : Float) → k < length s → i ≤ k → Selected (drop i t) u (k - i) r
@@ -123,32 +112,32 @@ module _ (s t : List Float) (i e : ℕ) (n : Numbers s) (d : Parted s t i e) whe
             omega arith in ap (λ (w : Float). lt w r) (late x z li) ∙ c .after (x - i) (omega arith) (omega arith);
       }
     where
-      late : (x : ℕ) → i ≤ x → length (take i t) ≡ i → at (take i t ++ u) x ≡ at u (x - i)
+      late : (x : ℕ) → i ≤ x → length (take i t) ≡ i → numberAt (take i t ++ u) x ≡ numberAt u (x - i)
       late x q li = let j : x ≡ length (take i t) + (x - i) =
-          omega arith in ap (at (take i t ++ u)) j ∙ getD-append-add (take i t) u (x - i) nan
+          omega arith in ap (numberAt (take i t ++ u)) j ∙ getD-append-add (take i t) u (x - i) nan
 
-      low-u : (x : ℕ) → x < length u → lt (at u x) (at s (d .place)) ≡ false
-      low-u x h = none-at (under (at s (d .place))) u
-          (none-same (under (at s (d .place))) (drop i t) u (c .same) (none-all (under (at s (d .place))) (drop i t) inside)) x h
+      low-u : (x : ℕ) → x < length u → lt (numberAt u x) (numberAt s (d .place)) ≡ false
+      low-u x h = none-at (under (numberAt s (d .place))) u
+          (none-same (under (numberAt s (d .place))) (drop i t) u (c .same) (none-all (under (numberAt s (d .place))) (drop i t) inside)) x h
         where
-          inside : (x : ℕ) → x < length (drop i t) → lt (at (drop i t) x) (at s (d .place)) ≡ false
+          inside : (x : ℕ) → x < length (drop i t) → lt (numberAt (drop i t) x) (numberAt s (d .place)) ≡ false
           inside x l =
               let m : x < length t - i = omega (arith, length-drop i t) in
-              ap (λ (w : Float). lt w (at s (d .place))) (getD-drop i t x nan) ∙ d .high (i + x) (omega (arith, d .meet)) (omega arith)
+              ap (λ (w : Float). lt w (numberAt s (d .place))) (getD-drop i t x nan) ∙ d .high (i + x) (omega (arith, d .meet)) (omega arith)
 
       r-good : k - i < length u → Good r
       r-good q =
           let g = number-at u (same-numbers (drop i t) u (c .same) (numbers-drop t i numbers)) (k - i) q in
           subst Good (sym (c .is)) g
 
-      early : (x : ℕ) → x < k → (x < i) ⊎ (i ≤ x) → length (take i t) ≡ i → length u ≡ length t - i → lt r (at (take i t ++ u) x) ≡ false
+      early : (x : ℕ) → x < k → (x < i) ⊎ (i ≤ x) → length (take i t) ≡ i → length u ≡ length t - i → lt r (numberAt (take i t ++ u) x) ≡ false
       early x q (inr m) li lu = ap (lt r) (late x m li) ∙ c .before (x - i) (omega arith)
       early x q (inl m) li lu =
           let w : k - i < length u = omega (arith, d .long) in
           let y : x < length t = omega (arith, d .i-in, d .long) in
           ap (lt r) (List·getD-append (take i t) u nan x (omega arith) ∙ getD-take i t x nan m)
-          ∙ le-trans (at t x) (at s (d .place)) r (good x y) pivot-good (r-good w) (d .low x m)
-          (ap (λ (z : Float). lt z (at s (d .place))) (c .is) ∙ low-u (k - i) w)
+          ∙ le-trans (numberAt t x) (numberAt s (d .place)) r (good x y) pivot-good (r-good w) (d .low x m)
+          (ap (λ (z : Float). lt z (numberAt s (d .place))) (c .is) ∙ low-u (k - i) w)
 
   -- the parts are shorter lists of numbers
   pub front-ok : (k m : ℕ) → length s ≡ m → k < e → (length (take e t) < m) × (k < length (take e t)) × Numbers (take e t)

@@ -1,4 +1,9 @@
--- The doors' test of the values, and lists filled place by place. Assumes nothing.
+-- The doors' test of the values, and lists filled place by place.
+--     one value: finite-number, usable-no, usable-bits
+--     the list: all-step, all-end, usable-at, numbers-of
+--     distances: filled-away
+--     tests turned round: not-true, not-false
+-- Assumes nothing.
 use mathlib.Core.Path.{_≡_, refl, sym, ap, _∙_, subst}
 use mathlib.Core.List.{List, [], _∷_, map}
 use mathlib.Core.Bool.{Bool, true, false, not, _&&_, true≢false, false≢true}
@@ -12,10 +17,11 @@ use lib.ListN.{length, getD, drop, length-map, List·getD-map, drop-of-length-le
 use lib.Seq.{drop-cons, ext-getD}
 use lib.Ieee.{Float, nan, inf, fin, binary32, fits, isNan, toBits, ofBits, up, down, add, sub}
 use lib.Ieee.Bits.{ofBits-toBits}
+use Rattle.laws.proofs.Bools.{and-left, and-right}
 use Rattle.ieee.specs.Ops.{finite, abs}
-use Rattle.math.specs.Lists.{at}
+use Rattle.math.specs.Lists.{numberAt}
 use Rattle.ieee.specs.Ops.{plain}
-use Rattle.medians.specs.Median.{usable, allUsable, bad, Numbers, away}
+use Rattle.medians.specs.Median.{usable, allUsable, isBad, Numbers, away}
 use Rattle.medians.proofs.Order.{good-of}
 use Rattle.medians.proofs.Counts.{none-all}
 
@@ -68,7 +74,7 @@ unfolding usable
 usable-bits x f h = plain-bits x f h (eqb (toBits binary32 x) 2147483648) refl ∙ sym (ap (λ (b : Bool). b && plain x) h)
 
 -- ---- the list
-at-drop : (s : List Float) (i : ℕ) → i < length s → allUsable (drop i s) ≡ (usable (at s i) && allUsable (drop (suc i) s))
+at-drop : (s : List Float) (i : ℕ) → i < length s → allUsable (drop i s) ≡ (usable (numberAt s i) && allUsable (drop (suc i) s))
 unfolding allUsable
 at-drop s i h = ap allUsable (drop-cons s i nan h)
 
@@ -81,7 +87,7 @@ and-assoc true b c = refl
 and-assoc false b c = refl
 
 -- a walk over the list that joins what it has seen, ok, with what is to come
-pub all-step : (s : List Float) (i : ℕ) (ok f next r : Bool) → i < length s → f ≡ usable (at s i) → next ≡ (ok && f)
+pub all-step : (s : List Float) (i : ℕ) (ok f next r : Bool) → i < length s → f ≡ usable (numberAt s i) → next ≡ (ok && f)
     → (ok && allUsable (drop i s)) ≡ r → (next && allUsable (drop (i + 1) s)) ≡ r
 all-step s i ok f next r h ef en e =
     ap (λ (b : Bool). b && allUsable (drop (i + 1) s)) en
@@ -95,15 +101,7 @@ pub all-end : (s : List Float) (i : ℕ) (ok r : Bool) → length s ≤ i → (o
 unfolding allUsable
 all-end s i ok r h e = sym (and-nil ok) ∙ sym (ap (λ (t : List Float). ok && allUsable t) (drop-of-length-le s h)) ∙ e
 
-and-left : (a b : Bool) → (a && b) ≡ true → a ≡ true
-and-left true b h = refl
-and-left false b h = h
-
-and-right : (a b : Bool) → (a && b) ≡ true → b ≡ true
-and-right true b h = h
-and-right false b h = absurd (false≢true h)
-
-pub usable-at : (s : List Float) → allUsable s ≡ true → (x : ℕ) → x < length s → usable (at s x) ≡ true
+pub usable-at : (s : List Float) → allUsable s ≡ true → (x : ℕ) → x < length s → usable (numberAt s x) ≡ true
 unfolding allUsable
 usable-at [] h x l = absurd (none x l)
   where
@@ -112,10 +110,10 @@ usable-at [] h x l = absurd (none x l)
 usable-at (y ∷ ys) h zero l = and-left (usable y) (allUsable ys) h
 usable-at (y ∷ ys) h (suc x) l = usable-at ys (and-right (usable y) (allUsable ys) h) x (omega arith)
 
-pub numbers-of : (s : List Float) → allUsable s ≡ true → ((i : ℕ) → T (fits binary32 (at s i))) → Numbers s
+pub numbers-of : (s : List Float) → allUsable s ≡ true → ((i : ℕ) → T (fits binary32 (numberAt s i))) → Numbers s
 unfolding Numbers usable
-numbers-of s h f = none-all bad s
-    (λ x l. good-of (at s x) (f x) (subst T (sym (and-right (finite (at s x)) (plain (at s x)) (usable-at s h x l))) tt))
+numbers-of s h f = none-all isBad s
+    (λ x l. good-of (numberAt s x) (f x) (subst T (sym (and-right (finite (numberAt s x)) (plain (numberAt s x)) (usable-at s h x l))) tt))
 
 -- ---- distances
 away-nan : (c : Float) → away c nan ≡ nan
@@ -123,16 +121,9 @@ unfolding away abs sub add
 away-nan c = refl
 
 pub filled-away : (s t : List Float) (c : Float) (i : ℕ) → length t ≡ length s → length s ≤ i
-    → ((x : ℕ) → x < i → at t x ≡ away c (at s x)) → t ≡ map (away c) s
+    → ((x : ℕ) → x < i → numberAt t x ≡ away c (numberAt s x)) → t ≡ map (away c) s
 filled-away s t c i e h f =
     ext-getD nan t (map (away c) s) (e ∙ sym (length-map s (away c)))
     (λ x l. f x (omega arith) ∙ sym (ap (λ (d : Float). getD (map (away c) s) x d) (sym (away-nan c)) ∙ List·getD-map (away c) s x nan))
 
 -- ---- tests turned round
-pub not-yes : (b : Bool) → not b ≡ true → b ≡ false
-not-yes true h = absurd (false≢true h)
-not-yes false h = refl
-
-pub not-no : (b : Bool) → not b ≡ false → b ≡ true
-not-no true h = refl
-not-no false h = absurd (true≢false h)

@@ -1,2 +1,2 @@
 pub mod Median
-pub mod Select
+pub mod Inner

@@ -1,4 +1,4 @@
--- `median` and `mad_sigma`, as document 01 has them in the table of doors (refusals 9 and 10) and below it: order statistics of f32 values.
+-- `median` and `mad_sigma`, by rule 48 and refusals 9 and 10: order statistics of f32 values.
 -- Definitions only. Assumes nothing.
 use mathlib.Core.Path.{_≡_}
 use mathlib.Core.List.{List, [], _∷_, map}
@@ -8,20 +8,20 @@ use lib.Dec.{leb, ltb, eqb}
 use lib.ListN.{length}
 use lib.Ieee.{Float, nan, binary32, lt, add, sub, mul, fits, ofBits}
 use Rattle.ieee.specs.Ops.{abs, finite, plain}
-use Rattle.ieee.specs.Constants.{1·4826}
+use Rattle.ieee.specs.Constants.{1·4826, 0·5}
 use Rattle.laws.specs.Check.{orRefuse}
 use Rattle.laws.specs.Said.{Said, refuse, none, give}
 use Rattle.medians.specs.declared.Answer.{Answer}
 use Rattle.medians.specs.declared.Answer.the-variants.{Number, Refused}
 
 -- how many values pass a test
-unfoldable pub count : (Float → Bool) → List Float → ℕ
-count p [] = 0
-count p (x ∷ xs) = cond (p x) 1 0 + count p xs
+unfoldable pub countIn : (Float → Bool) → List Float → ℕ
+countIn p [] = 0
+countIn p (x ∷ xs) = cond (p x) 1 0 + countIn p xs
 
 -- the same values, in whatever order: every test is passed by as many
 unfoldable pub SameValues : List Float → List Float → Type 0
-SameValues s t = (p : Float → Bool) → count p s ≡ count p t
+SameValues s t = (p : Float → Bool) → countIn p s ≡ countIn p t
 
 -- below x
 abbrev pub under : Float → Float → Bool
@@ -37,8 +37,8 @@ upTo x y = not (lt x y)
 
 -- whether x has the place k in the order of the values, counted from 0: at most k are below it, and more than k are not above it
 unfoldable pub isKth : List Float → ℕ → Float → Bool
-unfolding count
-isKth s k x = leb (count (under x) s) k && ltb k (count (upTo x) s)
+unfolding countIn
+isKth s k x = leb (countIn (under x) s) k && ltb k (countIn (upTo x) s)
 
 -- the first value of a list that passes a test
 unfoldable pub firstWith : (Float → Bool) → List Float → Float
@@ -51,16 +51,13 @@ unfolding firstWith isKth
 kth s k = firstWith (isKth s k) s
 
 -- 0.5
-abbrev pub half : Float
-half = ofBits binary32 0x3f00_0000
-
--- the middle value; of an even number half the sum of the two middle ones; of none 0
+-- the middle value; of an even number 0·5 the sum of the two middle ones; of none 0
 unfoldable pub median : List Float → Float
 unfolding kth
 median s =
     cond (eqb (length s) 0) (ofBits binary32 0)
     (cond (eqb (length s % 2) 1) (kth s (length s / 2))
-    (mul binary32 half (add binary32 (kth s (length s / 2 - 1)) (kth s (length s / 2)))))
+    (mul binary32 0·5 (add binary32 (kth s (length s / 2 - 1)) (kth s (length s / 2)))))
 
 -- the distance of x from c
 unfoldable pub away : Float → Float → Float
@@ -84,14 +81,14 @@ allUsable [] = true
 allUsable (x ∷ xs) = usable x && allUsable xs
 
 -- what no list to be ordered may hold: what is no `f32`, a NaN, -0; an infinity may be a distance
-unfoldable pub bad : Float → Bool
+unfoldable pub isBad : Float → Bool
 unfolding fits
-bad x = not (fits binary32 x && plain x)
+isBad x = not (fits binary32 x && plain x)
 
 -- a list that can be ordered
 unfoldable pub Numbers : List Float → Type 0
-unfolding count bad
-Numbers s = count bad s ≡ 0
+unfolding countIn isBad
+Numbers s = countIn isBad s ≡ 0
 
 -- 9: over 4,096 values. 10: a NaN, an infinity or -0 among them
 unfoldable pub checked : List Float → Said Float → Said Float

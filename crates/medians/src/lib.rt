@@ -10,7 +10,7 @@ ghost use Rattle.medians.specs.Median.{said, medianAnswer, madSigmaAnswe
 pub enum Answer {
     // the value
     Number(f32),
-    // document 01's number of a refusal
+    // the number of a refusal
     Refused(u8),
 }
 

@@ -6,8 +6,7 @@ ghost use lib.ListN.{length};
 ghost use lib.Ieee as Ieee;
 ghost use Rattle.math.specs.Lists.{swapped};
 ghost use Rattle.medians.specs.Median.{SameValues, Numbers, allUsable, median};
-ghost use Rattle.medians.specs.Select.{Stop, Floor, Risen, Sunk, Parting, Parted};
-ghost use Rattle.medians.specs.Select.{Selected, Largest, Turned};
+ghost use Rattle.medians.specs.Inner.{Stop, Floor, Risen, Sunk, Parting, Parted, Selected, Largest, Turned};
 
 // Where a partition has come to.
 pub struct Split {
@@ -132,8 +131,8 @@ fn largest(v: &[f32], n: usize) -> f32
 // The median; of usable values it is no NaN.
 pub(crate) fn middle(v: &mut [f32]) -> f32
     requires { ⌜ Numbers (now v) ⌝ }
-    ensures { λ r. ⌜ (r ≡ median (now (v .entry))) × SameValues (now (v .entry)) (now (v .exit)) ⌝ }
-    ensures { λ r. ⌜ (allUsable (now (v .entry)) ≡ true → Ieee.isNan r ≡ false) ⌝ }
+    ensures v { λ r. ⌜ (r ≡ median (now (v .entry))) × SameValues (now (v .entry)) (now (v .exit)) ⌝ }
+    ensures answer { λ r. ⌜ (allUsable (now (v .entry)) ≡ true → Ieee.isNan r ≡ false) ⌝ }
 {
     let n = v.len();
     if n == 0 {

@@ -16,8 +16,8 @@ use Rattle.laws.proofs.Folds.{fold-ext}
 use Rattle.laws.proofs.Sums.{sum-nil, sum-at}
 use Rattle.boundary.specs.Runs.{runStart, runEnd, edges}
 use Rattle.boundary.proofs.Runs.{both-ends, start-le, run-end-le}
-use Rattle.noise.specs.Rows.{inkAt, isBare, isBetween, rowsWithout, rowsWith}
-use Rattle.noise.specs.Door.{isShortest, withoutAnswer, withAnswer, rowsOf}
+use Rattle.noise.specs.Rows.{rowInkAt, isBare, isBetween, rowsWithout, rowsWith}
+use Rattle.noise.specs.Door.{isShortest, withoutAnswer, withAnswer, countedRows}
 use Rattle.noise.specs.Claims.{AddUp, RowPoints}
 use Rattle.noise.proofs.Counting.{rows-add}
 
@@ -60,26 +60,26 @@ counts-add : (k n : ℕ) → rowsWithout k n + sumTo n (λ from. sumTo n (λ to.
 unfolding rowsWithout rowsWith isBare isBetween
 counts-add k n =
     rows-add n n (isBare k n) (isBetween k n)
-    (λ row. one-answer n (runStart k n (inkAt row)) (runEnd k n (inkAt row)) (start-le k n (inkAt row)) (run-end-le k n (inkAt row))
-    (end-there k n (inkAt row)))
+    (λ row. one-answer n (runStart k n (rowInkAt row)) (runEnd k n (rowInkAt row)) (start-le k n (rowInkAt row)) (run-end-le k n (rowInkAt row))
+    (end-there k n (rowInkAt row)))
 
 -- what the entries answer are the counts
-bare-answered : (k n : ℕ) → isShortest k ≡ true → n ≤ 60 → rowsOf (withoutAnswer k n) ≡ rowsWithout k n
+bare-answered : (k n : ℕ) → isShortest k ≡ true → n ≤ 60 → countedRows (withoutAnswer k n) ≡ rowsWithout k n
 bare-answered k n e l = rw (e, le-leb n 60 l)
 
 between-answered : (k n from to : ℕ) → isShortest k ≡ true → n ≤ 60 → from < n → to < n
-    → rowsOf (withAnswer k n from to) ≡ rowsWith k n from to
+    → countedRows (withAnswer k n from to) ≡ rowsWith k n from to
 between-answered k n from to e l f t = rw (e, le-leb n 60 l, lt-ltb from n f, lt-ltb to n t)
 
 answers-add : (k n : ℕ) → isShortest k ≡ true → n ≤ 60
-    → rowsOf (withoutAnswer k n) + sumTo n (λ from. sumTo n (λ to. rowsOf (withAnswer k n from to))) ≡ 2 ^ n
+    → countedRows (withoutAnswer k n) + sumTo n (λ from. sumTo n (λ to. countedRows (withAnswer k n from to))) ≡ 2 ^ n
 answers-add k n e l =
     omega (
       arith,
       counts-add k n,
       bare-answered k n e l,
-      fold-ext _+_ 0 n (λ from. sumTo n (λ to. rowsOf (withAnswer k n from to))) (λ from. sumTo n (λ to. rowsWith k n from to))
-          (λ from f. fold-ext _+_ 0 n (λ to. rowsOf (withAnswer k n from to)) (λ to. rowsWith k n from to)
+      fold-ext _+_ 0 n (λ from. sumTo n (λ to. countedRows (withAnswer k n from to))) (λ from. sumTo n (λ to. rowsWith k n from to))
+          (λ from f. fold-ext _+_ 0 n (λ to. countedRows (withAnswer k n from to)) (λ to. rowsWith k n from to)
           (λ to t. between-answered k n from to e l f t)),
     )
 
@@ -124,9 +124,9 @@ there-two n s e f l two = go (ltb s n) two
 pub row-points : RowPoints
 unfolding RowPoints isBare isBetween edges
 row-points k n row =
-    let s = runStart k n (inkAt row) in
-    let e = runEnd k n (inkAt row) in
+    let s = runStart k n (rowInkAt row) in
+    let e = runEnd k n (rowInkAt row) in
     record {
-      bare = (none-there n s e, there-none n s e (start-le k n (inkAt row)));
+      bare = (none-there n s e, there-none n s e (start-le k n (rowInkAt row)));
       between = λ from to l. (two-there n s e from to l, there-two n s e from to);
     }

@@ -21,11 +21,10 @@ use Rattle.laws.proofs.Bools.{and-both, clash, both, bool-ext, falsely, le-or-l
 use Rattle.laws.proofs.Sums.{bit-part}
 use Rattle.boundary.specs.Runs.{every}
 use Rattle.boundary.proofs.Runs.{every-of, every-at}
-use Rattle.noise.specs.Rows.{inkAt, countRows, isBare, rowsWithout}
-use Rattle.noise.specs.Parts.{isClear, clearRows}
+use Rattle.noise.specs.Rows.{rowInkAt, rowsCounted, isBare, rowsWithout}
+use Rattle.noise.specs.Inner.{isClear, clearRows}
 use Rattle.noise.proofs.Counting.{rows-ext, rows-none, rows-all, rows-most, rows-product, rows-part}
-use Rattle.noise.proofs.Solid.{Solid, Free, solid-at, solid-of, solid-up, solid-down, solid-drop, drop-solid}
-use Rattle.noise.proofs.Solid.{bare-free, free-bare, bare-run}
+use Rattle.noise.proofs.Solid.{Solid, Free, solid-at, solid-of, solid-up, solid-down, solid-drop, drop-solid, bare-free, free-bare, bare-run}
 
 -- ---- a pixel more in front
 bare-tail : (k n : ℕ) (x : Bool) (row : List Bool) → 0 < k → isBare k (suc n) (x ∷ row) ≡ true → isBare k n row ≡ true
@@ -38,13 +37,13 @@ bare-false k n row some =
     bool-ext (isBare k (suc n) (false ∷ row)) (isBare k n row) (bare-tail k n false row some)
     (λ e. free-bare k (suc n) (false ∷ row) (record { none = later (bare-free k n row some e) }))
   where
-    later : Free k n (inkAt row) → (a : ℕ) → a + k ≤ suc n → Solid k (inkAt (false ∷ row)) a → ⊥
-    later free zero l s = clash (solid-at k (inkAt (false ∷ row)) 0 0 s (omega arith) (omega arith)) refl
+    later : Free k n (rowInkAt row) → (a : ℕ) → a + k ≤ suc n → Solid k (rowInkAt (false ∷ row)) a → ⊥
+    later free zero l s = clash (solid-at k (rowInkAt (false ∷ row)) 0 0 s (omega arith) (omega arith)) refl
     later free (suc a) l s = free .none a (omega arith) (solid-down k false row a s)
 
 -- ---- clear rows
 pub clear-suc : (k n : ℕ) → 0 < k → clearRows k (suc n) ≡ rowsWithout k n
-unfolding clearRows rowsWithout isClear countRows
+unfolding clearRows rowsWithout isClear rowsCounted
 clear-suc k n some =
     omega (
       arith,
@@ -63,20 +62,20 @@ clear-suc k n some =
 
 -- ---- rows whose first n pixels are ink
 abbrev pub allInk : ℕ → List Bool → Bool
-allInk n row = every n (inkAt row)
+allInk n row = every n (rowInkAt row)
 
 all-true : (n : ℕ) (row : List Bool) → allInk (suc n) (true ∷ row) ≡ allInk n row
 all-true n row =
     bool-ext (allInk (suc n) (true ∷ row)) (allInk n row)
-    (λ e. every-of n (inkAt row) (λ j l. every-at (suc n) (inkAt (true ∷ row)) e (suc j) (omega arith)))
-    (λ e. every-of (suc n) (inkAt (true ∷ row)) (longer (every-at n (inkAt row) e)))
+    (λ e. every-of n (rowInkAt row) (λ j l. every-at (suc n) (rowInkAt (true ∷ row)) e (suc j) (omega arith)))
+    (λ e. every-of (suc n) (rowInkAt (true ∷ row)) (longer (every-at n (rowInkAt row) e)))
   where
-    longer : ((j : ℕ) → j < n → inkAt row j ≡ true) → (j : ℕ) → j < suc n → inkAt (true ∷ row) j ≡ true
+    longer : ((j : ℕ) → j < n → rowInkAt row j ≡ true) → (j : ℕ) → j < suc n → rowInkAt (true ∷ row) j ≡ true
     longer all zero l = refl
     longer all (suc j) l = all j (omega arith)
 
-pub all-one : (n : ℕ) → countRows n (allInk n) ≡ 1
-unfolding countRows every
+pub all-one : (n : ℕ) → rowsCounted n (allInk n) ≡ 1
+unfolding rowsCounted every
 all-one zero = refl
 all-one (suc n) =
     omega (
@@ -84,7 +83,7 @@ all-one (suc n) =
       all-one n,
       rows-ext n (λ row. allInk (suc n) (true ∷ row)) (allInk n) (λ row e. all-true n row),
       rows-none n (λ row. allInk (suc n) (false ∷ row))
-          (λ row e. falsely (allInk (suc n) (false ∷ row)) (λ t. clash (every-at (suc n) (inkAt (false ∷ row)) t 0 (omega arith)) refl)),
+          (λ row e. falsely (allInk (suc n) (false ∷ row)) (λ t. clash (every-at (suc n) (rowInkAt (false ∷ row)) t 0 (omega arith)) refl)),
     )
 
 -- ---- rows of c + b pixels that have no run of c + 1, and have one with an ink pixel in front: c ink pixels, and then a clear row
@@ -92,55 +91,55 @@ abbrev grows : ℕ → ℕ → List Bool → Bool
 grows c b row = allInk c (take c row) && isClear (suc c) b (drop c row)
 
 pub record Grows (c b : ℕ) (row : List Bool) : Type 0 where
-  pub ink : (j : ℕ) → j < c → inkAt row j ≡ true
-  pub stops : inkAt row c ≡ false
-  pub rest : Free (suc c) b (inkAt (drop c row))
+  pub ink : (j : ℕ) → j < c → rowInkAt row j ≡ true
+  pub stops : rowInkAt row c ≡ false
+  pub rest : Free (suc c) b (rowInkAt (drop c row))
 
 module _ (c b : ℕ) (row : List Bool) where
-  drop-first : inkAt (drop c row) 0 ≡ inkAt row c
-  drop-first = getD-drop c row 0 false ∙ ap (inkAt row) (add-zero c)
+  drop-first : rowInkAt (drop c row) 0 ≡ rowInkAt row c
+  drop-first = getD-drop c row 0 false ∙ ap (rowInkAt row) (add-zero c)
 
   test-grows : grows c b row ≡ true → Grows c b row
   unfolding isClear
   test-grows e =
-      let q = and-both (allInk c (take c row)) (isBare (suc c) b (drop c row) && not (inkAt (drop c row) 0)) e in
-      let w = and-both (isBare (suc c) b (drop c row)) (not (inkAt (drop c row) 0)) (q .1) in
+      let q = and-both (allInk c (take c row)) (isBare (suc c) b (drop c row) && not (rowInkAt (drop c row) 0)) e in
+      let w = and-both (isBare (suc c) b (drop c row)) (not (rowInkAt (drop c row) 0)) (q .1) in
       record {
-        ink = λ j l. sym (getD-take c row j false l) ∙ every-at c (inkAt (take c row)) (q .0) j l;
-        stops = sym drop-first ∙ not-true (inkAt (drop c row) 0) (w .1);
+        ink = λ j l. sym (getD-take c row j false l) ∙ every-at c (rowInkAt (take c row)) (q .0) j l;
+        stops = sym drop-first ∙ not-true (rowInkAt (drop c row) 0) (w .1);
         rest = bare-free (suc c) b (drop c row) (omega arith) (w .0);
       }
 
   grows-test : Grows c b row → grows c b row ≡ true
   unfolding isClear
   grows-test g =
-      both (allInk c (take c row)) (isBare (suc c) b (drop c row) && not (inkAt (drop c row) 0))
-      (every-of c (inkAt (take c row)) (λ j l. getD-take c row j false l ∙ g .ink j l))
-      (both (isBare (suc c) b (drop c row)) (not (inkAt (drop c row) 0)) (free-bare (suc c) b (drop c row) (g .rest))
+      both (allInk c (take c row)) (isBare (suc c) b (drop c row) && not (rowInkAt (drop c row) 0))
+      (every-of c (rowInkAt (take c row)) (λ j l. getD-take c row j false l ∙ g .ink j l))
+      (both (isBare (suc c) b (drop c row)) (not (rowInkAt (drop c row) 0)) (free-bare (suc c) b (drop c row) (g .rest))
       (ap not (drop-first ∙ g .stops)))
 
   -- they are bare
   grows-bare : Grows c b row → isBare (suc c) (c + b) row ≡ true
   grows-bare g = free-bare (suc c) (c + b) row (record { none = λ a l s. ⊎-elim (over a s) (after a l s) (le-or-lt a c) })
     where
-      over : (a : ℕ) → Solid (suc c) (inkAt row) a → a ≤ c → ⊥
-      over a s l = clash (solid-at (suc c) (inkAt row) a c s l (omega arith)) (g .stops)
+      over : (a : ℕ) → Solid (suc c) (rowInkAt row) a → a ≤ c → ⊥
+      over a s l = clash (solid-at (suc c) (rowInkAt row) a c s l (omega arith)) (g .stops)
 
       back : (c a : ℕ) → c < a → a ≡ c + (a - c)
       back c a l = omega arith
 
-      after : (a : ℕ) → a + suc c ≤ c + b → Solid (suc c) (inkAt row) a → c < a → ⊥
+      after : (a : ℕ) → a + suc c ≤ c + b → Solid (suc c) (rowInkAt row) a → c < a → ⊥
       after a l s m =
-          g .rest .none (a - c) (omega arith) (drop-solid (suc c) c row (a - c) (subst (Solid (suc c) (inkAt row)) (back c a m) s))
+          g .rest .none (a - c) (omega arith) (drop-solid (suc c) c row (a - c) (subst (Solid (suc c) (rowInkAt row)) (back c a m) s))
 
   -- and no longer so with an ink pixel in front
   grows-run : Grows c b row → isBare (suc c) (suc (c + b)) (true ∷ row) ≡ false
   grows-run g =
       falsely (isBare (suc c) (suc (c + b)) (true ∷ row))
       (λ e. bare-free (suc c) (suc (c + b)) (true ∷ row) (omega arith) e .none 0 (omega arith)
-      (solid-of (suc c) (inkAt (true ∷ row)) 0 whole))
+      (solid-of (suc c) (rowInkAt (true ∷ row)) 0 whole))
     where
-      whole : (i : ℕ) → 0 ≤ i → i < 0 + suc c → inkAt (true ∷ row) i ≡ true
+      whole : (i : ℕ) → 0 ≤ i → i < 0 + suc c → rowInkAt (true ∷ row) i ≡ true
       whole zero l m = refl
       whole (suc i) l m = g .ink i (omega arith)
 
@@ -152,25 +151,25 @@ module _ (c b : ℕ) (row : List Bool) where
       let ink = inks free (r .0) (r .1) (r .2) in
       record {
         ink = ink;
-        stops = falsely (inkAt row c) (λ t. free .none 0 (room t) (solid-of (suc c) (inkAt row) 0 (longer ink t)));
+        stops = falsely (rowInkAt row c) (λ t. free .none 0 (room t) (solid-of (suc c) (rowInkAt row) 0 (longer ink t)));
         rest = record { none = λ a l s. free .none (c + a) (omega arith) (solid-drop (suc c) c row a s) };
       }
     where
-      inks : Free (suc c) (c + b) (inkAt row) → (a : ℕ) → a + suc c ≤ suc (c + b) → Solid (suc c) (inkAt (true ∷ row)) a
-          → (j : ℕ) → j < c → inkAt row j ≡ true
-      inks free zero l s j m = solid-at (suc c) (inkAt (true ∷ row)) 0 (suc j) s (omega arith) (omega arith)
+      inks : Free (suc c) (c + b) (rowInkAt row) → (a : ℕ) → a + suc c ≤ suc (c + b) → Solid (suc c) (rowInkAt (true ∷ row)) a
+          → (j : ℕ) → j < c → rowInkAt row j ≡ true
+      inks free zero l s j m = solid-at (suc c) (rowInkAt (true ∷ row)) 0 (suc j) s (omega arith) (omega arith)
       inks free (suc a) l s j m = absurd (free .none a (omega arith) (solid-down (suc c) true row a s))
 
-      room : inkAt row c ≡ true → 0 + suc c ≤ c + b
+      room : rowInkAt row c ≡ true → 0 + suc c ≤ c + b
       room t =
           ⊎-elim (λ l. absurd (clash t (List·getD-eq-default row false (omega arith)))) (λ l. omega arith) (le-or-lt (length row) c)
 
-      longer : ((j : ℕ) → j < c → inkAt row j ≡ true) → inkAt row c ≡ true → (i : ℕ) → 0 ≤ i → i < 0 + suc c → inkAt row i ≡ true
-      longer ink t i l m = ⊎-elim (λ w. ap (inkAt row) w ∙ t) (λ w. ink i w) (at-or-below i c (omega arith))
+      longer : ((j : ℕ) → j < c → rowInkAt row j ≡ true) → rowInkAt row c ≡ true → (i : ℕ) → 0 ≤ i → i < 0 + suc c → rowInkAt row i ≡ true
+      longer ink t i l m = ⊎-elim (λ w. ap (rowInkAt row) w ∙ t) (λ w. ink i w) (at-or-below i c (omega arith))
 
 -- ---- bare rows of one pixel more
 pub bare-long : (c b : ℕ) → rowsWithout (suc c) (suc (c + b)) + clearRows (suc c) b ≡ 2 * rowsWithout (suc c) (c + b)
-unfolding rowsWithout clearRows countRows
+unfolding rowsWithout clearRows rowsCounted
 bare-long c b =
     let k = suc c in
     let n = c + b in
@@ -181,8 +180,8 @@ bare-long c b =
     (λ g. grows-bare c b row (test-grows c b row g))
     (λ g. grows-run c b row (test-grows c b row g))) in
     let light = rows-ext n (λ row. isBare k (suc n) (false ∷ row)) (isBare k n) (λ row e. bare-false k n row (omega arith)) in
-    let one : countRows c (allInk c) * countRows b (isClear k b) ≡ countRows b (isClear k b) =
-    ap (λ (z : ℕ). z * countRows b (isClear k b)) (all-one c) ∙ one-mul (countRows b (isClear k b)) in
+    let one : rowsCounted c (allInk c) * rowsCounted b (isClear k b) ≡ rowsCounted b (isClear k b) =
+    ap (λ (z : ℕ). z * rowsCounted b (isClear k b)) (all-one c) ∙ one-mul (rowsCounted b (isClear k b)) in
     omega (arith, rows-product c b (allInk c) (isClear k b))
 
 -- fewer pixels than a run
@@ -193,7 +192,7 @@ bare-short k n l =
 
 -- ---- clear rows, one count from those before it
 pub clear-none : (k : ℕ) → 0 < k → clearRows k 0 ≡ 1
-unfolding clearRows countRows isClear
+unfolding clearRows rowsCounted isClear
 clear-none k some = ap (λ (b : Bool). bit (b && true)) (free-bare k 0 [] (record { none = λ a l s. omega arith }))
 
 pub clear-one : (k : ℕ) → 0 < k → clearRows k 1 ≡ 1

@@ -12,7 +12,7 @@ use lib.Pow.{pow-mono}
 use lib.Seq.{getD-set-same, getD-set-other}
 use Rattle.laws.proofs.Bools.{at-or-below}
 use Rattle.noise.specs.Rows.{rowsWithout}
-use Rattle.noise.specs.Parts.{Filled, clearRows}
+use Rattle.noise.specs.Inner.{Filled, clearRows}
 use Rattle.noise.proofs.Bare.{clear-suc, clear-none, clear-one, clear-short, clear-long, clear-most}
 
 -- one row of no pixels is clear, and one of one pixel

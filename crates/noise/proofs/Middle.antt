@@ -16,8 +16,8 @@ use lib.Seq.{getD-take, getD-drop}
 use Rattle.laws.proofs.Bools.{and-both, both, bool-ext, falsely, le-or-lt}
 use Rattle.boundary.specs.Runs.{runAt}
 use Rattle.boundary.proofs.Runs.{every-of, every-at}
-use Rattle.noise.specs.Rows.{inkAt, countRows}
-use Rattle.noise.specs.Parts.{isMiddle, middleRows}
+use Rattle.noise.specs.Rows.{rowInkAt, rowsCounted}
+use Rattle.noise.specs.Inner.{isMiddle, middleRows}
 use Rattle.noise.proofs.Counting.{rows-ext, rows-none, rows-all, rows-most, rows-product}
 use Rattle.noise.proofs.Solid.{Solid, solid-at, solid-of, run-solid, solid-run}
 use Rattle.noise.proofs.Bare.{allInk, all-one}
@@ -28,20 +28,20 @@ pub record Ended (k m : ℕ) (t : ℕ → Bool) : Type 0 where
   pub start : Solid k t 0
   pub end : Solid k t (m - k)
 
-pub middle-ended : (k m : ℕ) (row : List Bool) → isMiddle k m row ≡ true → Ended k m (inkAt row)
+pub middle-ended : (k m : ℕ) (row : List Bool) → isMiddle k m row ≡ true → Ended k m (rowInkAt row)
 unfolding isMiddle
 middle-ended k m row e =
-    let q = and-both (runAt k m (inkAt row) 0) (runAt k m (inkAt row) (m - k)) e in
-    let s = run-solid k m (inkAt row) 0 (q .0) in
+    let q = and-both (runAt k m (rowInkAt row) 0) (runAt k m (rowInkAt row) (m - k)) e in
+    let s = run-solid k m (rowInkAt row) 0 (q .0) in
     let long = s .0 in
-    record { long = omega arith; start = s .1; end = run-solid k m (inkAt row) (m - k) (q .1) .1 }
+    record { long = omega arith; start = s .1; end = run-solid k m (rowInkAt row) (m - k) (q .1) .1 }
 
-pub ended-middle : (k m : ℕ) (row : List Bool) → Ended k m (inkAt row) → isMiddle k m row ≡ true
+pub ended-middle : (k m : ℕ) (row : List Bool) → Ended k m (rowInkAt row) → isMiddle k m row ≡ true
 unfolding isMiddle
 ended-middle k m row e =
     let long = e .long in
-    both (runAt k m (inkAt row) 0) (runAt k m (inkAt row) (m - k)) (solid-run k m (inkAt row) 0 (omega arith) (e .start))
-    (solid-run k m (inkAt row) (m - k) (omega arith) (e .end))
+    both (runAt k m (rowInkAt row) 0) (runAt k m (rowInkAt row) (m - k)) (solid-run k m (rowInkAt row) 0 (omega arith) (e .start))
+    (solid-run k m (rowInkAt row) (m - k) (omega arith) (e .end))
 
 -- ---- the counts
 pub middle-short : (k m : ℕ) → m < k → middleRows k m ≡ 0
@@ -58,41 +58,41 @@ middle-tight k m l h =
     all : (row : List Bool) → isMiddle k m row ≡ true → allInk m row ≡ true
     all row t =
         let q = middle-ended k m row t in
-        every-of m (inkAt row) (λ j w. ⊎-elim
-        (λ y. solid-at k (inkAt row) (m - k) j (q .end) (omega arith) (omega arith))
-        (λ y. solid-at k (inkAt row) 0 j (q .start) (omega arith) (omega arith)) (le-or-lt k j))
+        every-of m (rowInkAt row) (λ j w. ⊎-elim
+        (λ y. solid-at k (rowInkAt row) (m - k) j (q .end) (omega arith) (omega arith))
+        (λ y. solid-at k (rowInkAt row) 0 j (q .start) (omega arith) (omega arith)) (le-or-lt k j))
 
     ends : (row : List Bool) → allInk m row ≡ true → isMiddle k m row ≡ true
     ends row t =
         ended-middle k m row (record {
           long = l;
-          start = solid-of k (inkAt row) 0 (λ i x y. every-at m (inkAt row) t i (omega arith));
-          end = solid-of k (inkAt row) (m - k) (λ i x y. every-at m (inkAt row) t i (omega arith));
+          start = solid-of k (rowInkAt row) 0 (λ i x y. every-at m (rowInkAt row) t i (omega arith));
+          end = solid-of k (rowInkAt row) (m - k) (λ i x y. every-at m (rowInkAt row) t i (omega arith));
         })
 
 -- the two runs part: what lies between is free
 middle-ends : (k d : ℕ) (row : List Bool) → isMiddle k (k + (d + k)) row ≡ (allInk k (take k row) && allInk k (drop d (drop k row)))
 middle-ends k d row =
     let m = k + (d + k) in
-    let t = inkAt row in
+    let t = rowInkAt row in
     bool-ext (isMiddle k m row) (allInk k (take k row) && allInk k (drop d (drop k row)))
     (λ e.
     let q = middle-ended k m row e in
     both (allInk k (take k row)) (allInk k (drop d (drop k row)))
-    (every-of k (inkAt (take k row)) (λ j l. getD-take k row j false l ∙ solid-at k t 0 j (q .start) (omega arith) (omega arith)))
-    (every-of k (inkAt (drop d (drop k row)))
+    (every-of k (rowInkAt (take k row)) (λ j l. getD-take k row j false l ∙ solid-at k t 0 j (q .start) (omega arith) (omega arith)))
+    (every-of k (rowInkAt (drop d (drop k row)))
     (λ j l. far j ∙ solid-at k t (m - k) (k + (d + j)) (q .end) (omega arith) (omega arith))))
     (λ e.
     let q = and-both (allInk k (take k row)) (allInk k (drop d (drop k row))) e in
-    let a = every-at k (inkAt (take k row)) (q .0) in
-    let z = every-at k (inkAt (drop d (drop k row))) (q .1) in
+    let a = every-at k (rowInkAt (take k row)) (q .0) in
+    let z = every-at k (rowInkAt (drop d (drop k row))) (q .1) in
     ended-middle k m row (record {
       long = omega arith;
       start = solid-of k t 0 (λ i x y. sym (getD-take k row i false (omega arith)) ∙ a i (omega arith));
       end = record { all = λ j l. let same : m - k + j ≡ k + (d + j) = omega arith in ap t same ∙ sym (far j) ∙ z j l };
     }))
   where
-    far : (j : ℕ) → inkAt (drop d (drop k row)) j ≡ inkAt row (k + (d + j))
+    far : (j : ℕ) → rowInkAt (drop d (drop k row)) j ≡ rowInkAt row (k + (d + j))
     far j = getD-drop d (drop k row) j false ∙ getD-drop k row (d + j) false
 
 pub middle-long : (k d : ℕ) → middleRows k (k + (d + k)) ≡ 2 ^ d
@@ -101,11 +101,11 @@ middle-long k d =
     rows-ext (k + (d + k)) (isMiddle k (k + (d + k))) (λ row. allInk k (take k row) && allInk k (drop d (drop k row)))
     (λ row e. middle-ends k d row)
     ∙ rows-product k (d + k) (allInk k) (λ rest. allInk k (drop d rest))
-    ∙ ap (λ (z : ℕ). z * countRows (d + k) (λ rest. allInk k (drop d rest))) (all-one k)
-    ∙ one-mul (countRows (d + k) (λ rest. allInk k (drop d rest)))
+    ∙ ap (λ (z : ℕ). z * rowsCounted (d + k) (λ rest. allInk k (drop d rest))) (all-one k)
+    ∙ one-mul (rowsCounted (d + k) (λ rest. allInk k (drop d rest)))
     ∙ rows-product d k (λ row. true) (allInk k)
-    ∙ ap (λ (z : ℕ). countRows d (λ row. true) * z) (all-one k)
-    ∙ mul-one (countRows d (λ row. true))
+    ∙ ap (λ (z : ℕ). rowsCounted d (λ row. true) * z) (all-one k)
+    ∙ mul-one (rowsCounted d (λ row. true))
     ∙ rows-all d
 
 pub middle-shift : (k m : ℕ) → m ≤ 60 → k ≤ m → k ≤ m - k → 1 * 2 ^ (m - k - k) % 2 ^ 64 ≡ middleRows k m

@@ -17,10 +17,9 @@ use lib.Seq.{getD-take, getD-drop}
 use borrow.Author.Tests.{eq-eqb, eqb-true}
 use Rattle.laws.proofs.Bools.{and-both, clash, both, bool-ext, falsely, le-or-lt, at-or-below, not-true}
 use Rattle.boundary.specs.Runs.{runStart, runEnd}
-use Rattle.noise.specs.Rows.{inkAt, isBare, isBetween}
-use Rattle.noise.specs.Parts.{isClear, isMiddle}
-use Rattle.noise.proofs.Solid.{Solid, Free, Begins, Ends, solid-at, solid-of, solid-drop, drop-solid, solid-take, take-solid}
-use Rattle.noise.proofs.Solid.{bare-free, free-bare, start-begins, begins-start, end-ends, ends-end}
+use Rattle.noise.specs.Rows.{rowInkAt, isBare, isBetween}
+use Rattle.noise.specs.Inner.{isClear, isMiddle}
+use Rattle.noise.proofs.Solid.{Solid, Free, Begins, Ends, solid-at, solid-of, solid-drop, drop-solid, solid-take, take-solid, bare-free, free-bare, start-begins, begins-start, end-ends, ends-end}
 use Rattle.noise.proofs.Middle.{middle-ended, ended-middle}
 
 -- f pixels before the first run, m to the end of the last, b after it, of a line of which t says which pixels are ink
@@ -95,17 +94,17 @@ module _ (k f m b : ℕ) (t : ℕ → Bool) (some : 0 < k) where
 -- ---- the parts as tests on rows
 -- What can lie before the first run: f pixels without a run, the last of which, if there is one, is not ink.
 abbrev pub isBefore : ℕ → ℕ → List Bool → Bool
-isBefore k f row = isBare k f row && not (inkAt row (f - 1))
+isBefore k f row = isBare k f row && not (rowInkAt row (f - 1))
 
 abbrev pub isParted : ℕ → ℕ → ℕ → ℕ → List Bool → Bool
 isParted k f m b row = isBefore k f (take f row) && (isMiddle k m (take m (drop f row)) && isClear k b (drop m (drop f row)))
 
 module _ (k f m b : ℕ) (row : List Bool) (some : 0 < k) where
   -- the first pixel after the last run
-  after-first : inkAt (drop m (drop f row)) 0 ≡ inkAt row (f + m)
-  after-first = getD-drop m (drop f row) 0 false ∙ getD-drop f row (m + 0) false ∙ ap (inkAt row) (omega arith)
+  after-first : rowInkAt (drop m (drop f row)) 0 ≡ rowInkAt row (f + m)
+  after-first = getD-drop m (drop f row) 0 false ∙ getD-drop f row (m + 0) false ∙ ap (rowInkAt row) (omega arith)
 
-  test-parts : isParted k f m b row ≡ true → Parted k f m b (inkAt row)
+  test-parts : isParted k f m b row ≡ true → Parted k f m b (rowInkAt row)
   unfolding isClear
   test-parts e =
       let u = take f row in
@@ -113,22 +112,22 @@ module _ (k f m b : ℕ) (row : List Bool) (some : 0 < k) where
       let w = drop m (drop f row) in
       let q = and-both (isBefore k f u) (isMiddle k m v && isClear k b w) e in
       let q₂ = and-both (isMiddle k m v) (isClear k b w) (q .1) in
-      let qb = and-both (isBare k f u) (not (inkAt u (f - 1))) (q .0) in
-      let qc = and-both (isBare k b w) (not (inkAt w 0)) (q₂ .1) in
+      let qb = and-both (isBare k f u) (not (rowInkAt u (f - 1))) (q .0) in
+      let qc = and-both (isBare k b w) (not (rowInkAt w 0)) (q₂ .1) in
       let mid = middle-ended k m v (q₂ .0) in
       let long = mid .long in
       record {
         before = record { none = λ a l s. bare-free k f u some (qb .0) .none a l (take-solid k f row a l s) };
         edge = λ i is.
             let z : i ≡ f - 1 = omega arith in
-            sym (getD-take f row i false (omega arith)) ∙ ap (inkAt u) z ∙ not-true (inkAt u (f - 1)) (qb .1);
+            sym (getD-take f row i false (omega arith)) ∙ ap (rowInkAt u) z ∙ not-true (rowInkAt u (f - 1)) (qb .1);
         long = long;
-        start = subst (Solid k (inkAt row)) (add-zero f) (solid-drop k f row 0 (solid-take k m (drop f row) 0 (omega arith) (mid .start)));
+        start = subst (Solid k (rowInkAt row)) (add-zero f) (solid-drop k f row 0 (solid-take k m (drop f row) 0 (omega arith) (mid .start)));
         end = solid-drop k f row (m - k) (solid-take k m (drop f row) (m - k) (omega arith) (mid .end));
-        stop = sym after-first ∙ not-true (inkAt w 0) (qc .1);
+        stop = sym after-first ∙ not-true (rowInkAt w 0) (qc .1);
         after = λ a l inside s. bare-free k b w some (qc .0) .none (a - (f + m)) (within a l inside)
             (drop-solid k m (drop f row) (a - (f + m))
-            (drop-solid k f row (m + (a - (f + m))) (subst (Solid k (inkAt row)) (split f m a l) s)));
+            (drop-solid k f row (m + (a - (f + m))) (subst (Solid k (rowInkAt row)) (split f m a l) s)));
       }
     where
       split : (f m a : ℕ) → f + m ≤ a → a ≡ f + (m + (a - (f + m)))
@@ -137,16 +136,16 @@ module _ (k f m b : ℕ) (row : List Bool) (some : 0 < k) where
       within : (a : ℕ) → f + m ≤ a → a + k ≤ f + (m + b) → a - (f + m) + k ≤ b
       within a l inside = omega arith
 
-  parts-test : Parted k f m b (inkAt row) → isParted k f m b row ≡ true
+  parts-test : Parted k f m b (rowInkAt row) → isParted k f m b row ≡ true
   unfolding isClear
   parts-test q =
       let u = take f row in
       let v = take m (drop f row) in
       let w = drop m (drop f row) in
       let long = q .long in
-      let start : Solid k (inkAt row) (f + 0) = subst (Solid k (inkAt row)) (sym (add-zero f)) (q .start) in
+      let start : Solid k (rowInkAt row) (f + 0) = subst (Solid k (rowInkAt row)) (sym (add-zero f)) (q .start) in
       both (isBefore k f u) (isMiddle k m v && isClear k b w)
-      (both (isBare k f u) (not (inkAt u (f - 1)))
+      (both (isBare k f u) (not (rowInkAt u (f - 1)))
       (free-bare k f u (record { none = λ a l s. q .before .none a l (solid-take k f row a l s) })) (ap not (last f refl)))
       (both (isMiddle k m v) (isClear k b w)
       (ended-middle k m v (record {
@@ -154,40 +153,40 @@ module _ (k f m b : ℕ) (row : List Bool) (some : 0 < k) where
         start = take-solid k m (drop f row) 0 (omega arith) (drop-solid k f row 0 start);
         end = take-solid k m (drop f row) (m - k) (omega arith) (drop-solid k f row (m - k) (q .end));
       }))
-      (both (isBare k b w) (not (inkAt w 0))
+      (both (isBare k b w) (not (rowInkAt w 0))
       (free-bare k b w (record {
         none = λ a l s.
             q .after (f + (m + a)) (omega arith) (omega arith) (solid-drop k f row (m + a) (solid-drop k m (drop f row) a s));
       }))
       (ap not (after-first ∙ q .stop))))
     where
-      last : (n : ℕ) → n ≡ f → inkAt (take f row) (f - 1) ≡ false
-      last zero e = subst (λ (z : ℕ). inkAt (take z row) (z - 1) ≡ false) e refl
+      last : (n : ℕ) → n ≡ f → rowInkAt (take f row) (f - 1) ≡ false
+      last zero e = subst (λ (z : ℕ). rowInkAt (take z row) (z - 1) ≡ false) e refl
       last (suc n) e =
           let z : f - 1 ≡ n = omega arith in
-          ap (inkAt (take f row)) z ∙ getD-take f row n false (omega arith) ∙ q .edge n (omega arith)
+          ap (rowInkAt (take f row)) z ∙ getD-take f row n false (omega arith) ∙ q .edge n (omega arith)
 
 -- ---- a row's outline
 pub ends-of : (k n f l : ℕ) (row : List Bool) → isBetween k n f l row ≡ true
-    → (runStart k n (inkAt row) ≡ f) × (runEnd k n (inkAt row) ≡ l + 1)
+    → (runStart k n (rowInkAt row) ≡ f) × (runEnd k n (rowInkAt row) ≡ l + 1)
 unfolding isBetween
 ends-of k n f l row e =
-    let q = and-both (eqb (runStart k n (inkAt row)) f) (eqb (runEnd k n (inkAt row)) (l + 1)) e in
-    (eqb-true (runStart k n (inkAt row)) f (q .0), eqb-true (runEnd k n (inkAt row)) (l + 1) (q .1))
+    let q = and-both (eqb (runStart k n (rowInkAt row)) f) (eqb (runEnd k n (rowInkAt row)) (l + 1)) e in
+    (eqb-true (runStart k n (rowInkAt row)) f (q .0), eqb-true (runEnd k n (rowInkAt row)) (l + 1) (q .1))
 
-of-ends : (k n f l : ℕ) (row : List Bool) → runStart k n (inkAt row) ≡ f → runEnd k n (inkAt row) ≡ l + 1
+of-ends : (k n f l : ℕ) (row : List Bool) → runStart k n (rowInkAt row) ≡ f → runEnd k n (rowInkAt row) ≡ l + 1
     → isBetween k n f l row ≡ true
 unfolding isBetween
 of-ends k n f l row start stop =
-    both (eqb (runStart k n (inkAt row)) f) (eqb (runEnd k n (inkAt row)) (l + 1)) (eq-eqb (runStart k n (inkAt row)) f start)
-    (eq-eqb (runEnd k n (inkAt row)) (l + 1) stop)
+    both (eqb (runStart k n (rowInkAt row)) f) (eqb (runEnd k n (rowInkAt row)) (l + 1)) (eq-eqb (runStart k n (rowInkAt row)) f start)
+    (eq-eqb (runEnd k n (rowInkAt row)) (l + 1) stop)
 
 -- it goes from f to the pixel before f + m where the three parts are such
 pub between-parts : (k f m b l : ℕ) (row : List Bool) → 0 < k → 0 < m → l + 1 ≡ f + m → length row ≡ f + (m + b)
     → isBetween k (f + (m + b)) f l row ≡ isParted k f m b row
 between-parts k f m b l row some more end whole =
     let n = f + (m + b) in
-    let t = inkAt row in
+    let t = rowInkAt row in
     bool-ext (isBetween k n f l row) (isParted k f m b row)
     (λ e.
     let q = ends-of k n f l row e in

@@ -15,8 +15,8 @@ use lib.ListN.{take, drop}
 use lib.Pow.{pow-add, pow-mono}
 use lib.Seq.{getD-drop}
 use Rattle.laws.proofs.Bools.{and-both, clash, both, bool-ext, falsely, le-or-lt, not-true}
-use Rattle.noise.specs.Rows.{inkAt, countRows, isBare, isBetween, rowsWithout, rowsWith}
-use Rattle.noise.specs.Parts.{isClear, isMiddle, clearRows, middleRows}
+use Rattle.noise.specs.Rows.{rowInkAt, rowsCounted, isBare, isBetween, rowsWithout, rowsWith}
+use Rattle.noise.specs.Inner.{isClear, isMiddle, clearRows, middleRows}
 use Rattle.noise.proofs.Counting.{rows-ext, rows-none, rows-product}
 use Rattle.noise.proofs.Solid.{solid-at, solid-take, take-solid, bare-free, free-bare, start-begins, end-ends}
 use Rattle.noise.proofs.Bare.{clear-suc, clear-most}
@@ -25,56 +25,56 @@ use Rattle.noise.proofs.Parted.{isBefore, isParted, ends-of, between-pa
 
 -- ---- before the first run: a bare row and a pixel that is not ink
 abbrev isLast : ℕ → ℕ → List Bool → Bool
-isLast k n row = isBare k n (take n row) && not (inkAt (drop n row) 0)
+isLast k n row = isBare k n (take n row) && not (rowInkAt (drop n row) 0)
 
 module _ (k n : ℕ) (row : List Bool) (some : 0 < k) where
-  last-at : inkAt (drop n row) 0 ≡ inkAt row n
-  last-at = getD-drop n row 0 false ∙ ap (inkAt row) (add-zero n)
+  last-at : rowInkAt (drop n row) 0 ≡ rowInkAt row n
+  last-at = getD-drop n row 0 false ∙ ap (rowInkAt row) (add-zero n)
 
-  last-same : inkAt (drop n row) 0 ≡ inkAt row (n + 1 - 1)
-  last-same = let z : n ≡ n + 1 - 1 = omega arith in last-at ∙ ap (inkAt row) z
+  last-same : rowInkAt (drop n row) 0 ≡ rowInkAt row (n + 1 - 1)
+  last-same = let z : n ≡ n + 1 - 1 = omega arith in last-at ∙ ap (rowInkAt row) z
 
   before-last : isBefore k (n + 1) row ≡ isLast k n row
   before-last =
       bool-ext (isBefore k (n + 1) row) (isLast k n row)
       (λ e.
-      let q = and-both (isBare k (n + 1) row) (not (inkAt row (n + 1 - 1))) e in
+      let q = and-both (isBare k (n + 1) row) (not (rowInkAt row (n + 1 - 1))) e in
       let free = bare-free k (n + 1) row some (q .0) in
-      both (isBare k n (take n row)) (not (inkAt (drop n row) 0))
+      both (isBare k n (take n row)) (not (rowInkAt (drop n row) 0))
       (free-bare k n (take n row) (record { none = λ a l s. free .none a (omega arith) (solid-take k n row a l s) }))
       (ap not last-same ∙ q .1))
       (λ e.
-      let q = and-both (isBare k n (take n row)) (not (inkAt (drop n row) 0)) e in
+      let q = and-both (isBare k n (take n row)) (not (rowInkAt (drop n row) 0)) e in
       let free = bare-free k n (take n row) some (q .0) in
-      let light = sym last-at ∙ not-true (inkAt (drop n row) 0) (q .1) in
-      both (isBare k (n + 1) row) (not (inkAt row (n + 1 - 1)))
+      let light = sym last-at ∙ not-true (rowInkAt (drop n row) 0) (q .1) in
+      both (isBare k (n + 1) row) (not (rowInkAt row (n + 1 - 1)))
       (free-bare k (n + 1) row (record {
         none = λ a l s. ⊎-elim
             (λ z. free .none a z (take-solid k n row a z s))
-            (λ z. clash (solid-at k (inkAt row) a n s (omega arith) z) light) (le-or-lt (a + k) n);
+            (λ z. clash (solid-at k (rowInkAt row) a n s (omega arith) z) light) (le-or-lt (a + k) n);
       }))
       (ap not (sym last-same) ∙ q .1))
 
-light-one : countRows 1 (λ row. not (inkAt row 0)) ≡ 1
-unfolding countRows
+light-one : rowsCounted 1 (λ row. not (rowInkAt row 0)) ≡ 1
+unfolding rowsCounted
 light-one = refl
 
-before-none : (k : ℕ) → countRows 0 (isBefore k 0) ≡ clearRows k 0
-unfolding clearRows isClear countRows
+before-none : (k : ℕ) → rowsCounted 0 (isBefore k 0) ≡ clearRows k 0
+unfolding clearRows isClear rowsCounted
 before-none k = refl
 
-before-one : (k n : ℕ) → 0 < k → countRows (n + 1) (isBefore k (n + 1)) ≡ rowsWithout k n
+before-one : (k n : ℕ) → 0 < k → rowsCounted (n + 1) (isBefore k (n + 1)) ≡ rowsWithout k n
 unfolding rowsWithout
 before-one k n some =
     rows-ext (n + 1) (isBefore k (n + 1)) (isLast k n) (λ row e. before-last k n row some)
-    ∙ rows-product n 1 (isBare k n) (λ row. not (inkAt row 0))
-    ∙ ap (λ (z : ℕ). countRows n (isBare k n) * z) light-one
-    ∙ mul-one (countRows n (isBare k n))
+    ∙ rows-product n 1 (isBare k n) (λ row. not (rowInkAt row 0))
+    ∙ ap (λ (z : ℕ). rowsCounted n (isBare k n) * z) light-one
+    ∙ mul-one (rowsCounted n (isBare k n))
 
-before-rows : (k f : ℕ) → 0 < k → countRows f (isBefore k f) ≡ clearRows k f
+before-rows : (k f : ℕ) → 0 < k → rowsCounted f (isBefore k f) ≡ clearRows k f
 before-rows k zero some = before-none k
 before-rows k (suc n) some =
-    subst (λ (z : ℕ). countRows z (isBefore k z) ≡ rowsWithout k n) (add-one n) (before-one k n some) ∙ sym (clear-suc k n some)
+    subst (λ (z : ℕ). rowsCounted z (isBefore k z) ≡ rowsWithout k n) (add-one n) (before-one k n some) ∙ sym (clear-suc k n some)
 
 -- ---- the product
 between-product : (k f m b l : ℕ) → 0 < k → 0 < m → l + 1 ≡ f + m
@@ -84,7 +84,7 @@ between-product k f m b l some more end =
     let rest : List Bool → Bool = λ row. isMiddle k m (take m row) && isClear k b (drop m row) in
     rows-ext (f + (m + b)) (isBetween k (f + (m + b)) f l) (isParted k f m b) (λ row e. between-parts k f m b l row some more end e)
     ∙ rows-product f (m + b) (isBefore k f) rest
-    ∙ ap (λ (z : ℕ). z * countRows (m + b) rest) (before-rows k f some)
+    ∙ ap (λ (z : ℕ). z * rowsCounted (m + b) rest) (before-rows k f some)
     ∙ ap (λ (z : ℕ). clearRows k f * z) (rows-product m b (isMiddle k m) (isClear k b))
 
 -- the last run of an outline does not end before the first
@@ -96,8 +96,8 @@ between-none k n f l some inside less =
     never : (row : List Bool) → isBetween k n f l row ≡ true → ⊥
     never row e =
         let q = ends-of k n f l row e in
-        let x = start-begins k n (inkAt row) f some inside (q .0) in
-        end-ends k n (inkAt row) (l + 1) some (omega arith) (q .1) .last f (x .within) (omega (arith, x .within)) (x .solid)
+        let x = start-begins k n (rowInkAt row) f some inside (q .0) in
+        end-ends k n (rowInkAt row) (l + 1) some (omega arith) (q .1) .last f (x .within) (omega (arith, x .within)) (x .solid)
 
 -- ---- as the code has it, from f to l in n pixels
 product-most : {a b : ℕ} (i j : ℕ) → a ≤ 2 ^ i → b ≤ 2 ^ j → a * b ≤ 2 ^ (i + j)

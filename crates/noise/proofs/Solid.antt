@@ -20,7 +20,7 @@ use Rattle.laws.proofs.Bools.{and-both, both, falsely, le-or-lt}
 use Rattle.laws.proofs.Folds.{first-at, first-none, first-le, first-holds, first-below, end-above, end-holds}
 use Rattle.boundary.specs.Runs.{every, runAt, inRun, runStart, runEnd}
 use Rattle.boundary.proofs.Runs.{every-of, every-at, run-of, run-at}
-use Rattle.noise.specs.Rows.{inkAt, isBare}
+use Rattle.noise.specs.Rows.{rowInkAt, isBare}
 
 -- k ink pixels in a row, the first at a
 pub record Solid (k : ℕ) (t : ℕ → Bool) (a : ℕ) : Type 0 where
@@ -39,26 +39,26 @@ solid-same : (k : ℕ) (t u : ℕ → Bool) (a b : ℕ) → ((j : ℕ) → j < k
 solid-same k t u a b same s = record { all = λ j l. sym (same j l) ∙ s .all j l }
 
 -- ---- in a row with a pixel more in front, without its first pixels, and in its first pixels
-pub solid-up : (k : ℕ) (x : Bool) (row : List Bool) (a : ℕ) → Solid k (inkAt row) a → Solid k (inkAt (x ∷ row)) (suc a)
-solid-up k x row a = solid-same k (inkAt row) (inkAt (x ∷ row)) a (suc a) (λ j l. rw (suc-add a j))
+pub solid-up : (k : ℕ) (x : Bool) (row : List Bool) (a : ℕ) → Solid k (rowInkAt row) a → Solid k (rowInkAt (x ∷ row)) (suc a)
+solid-up k x row a = solid-same k (rowInkAt row) (rowInkAt (x ∷ row)) a (suc a) (λ j l. rw (suc-add a j))
 
-pub solid-down : (k : ℕ) (x : Bool) (row : List Bool) (a : ℕ) → Solid k (inkAt (x ∷ row)) (suc a) → Solid k (inkAt row) a
-solid-down k x row a = solid-same k (inkAt (x ∷ row)) (inkAt row) (suc a) a (λ j l. rw (suc-add a j))
+pub solid-down : (k : ℕ) (x : Bool) (row : List Bool) (a : ℕ) → Solid k (rowInkAt (x ∷ row)) (suc a) → Solid k (rowInkAt row) a
+solid-down k x row a = solid-same k (rowInkAt (x ∷ row)) (rowInkAt row) (suc a) a (λ j l. rw (suc-add a j))
 
-drop-at : (c : ℕ) (row : List Bool) (a j : ℕ) → inkAt (drop c row) (a + j) ≡ inkAt row (c + a + j)
-drop-at c row a j = getD-drop c row (a + j) false ∙ ap (inkAt row) (sym (add-assoc c a j))
+drop-at : (c : ℕ) (row : List Bool) (a j : ℕ) → rowInkAt (drop c row) (a + j) ≡ rowInkAt row (c + a + j)
+drop-at c row a j = getD-drop c row (a + j) false ∙ ap (rowInkAt row) (sym (add-assoc c a j))
 
-pub solid-drop : (k c : ℕ) (row : List Bool) (a : ℕ) → Solid k (inkAt (drop c row)) a → Solid k (inkAt row) (c + a)
-solid-drop k c row a = solid-same k (inkAt (drop c row)) (inkAt row) a (c + a) (λ j l. drop-at c row a j)
+pub solid-drop : (k c : ℕ) (row : List Bool) (a : ℕ) → Solid k (rowInkAt (drop c row)) a → Solid k (rowInkAt row) (c + a)
+solid-drop k c row a = solid-same k (rowInkAt (drop c row)) (rowInkAt row) a (c + a) (λ j l. drop-at c row a j)
 
-pub drop-solid : (k c : ℕ) (row : List Bool) (a : ℕ) → Solid k (inkAt row) (c + a) → Solid k (inkAt (drop c row)) a
-drop-solid k c row a = solid-same k (inkAt row) (inkAt (drop c row)) (c + a) a (λ j l. sym (drop-at c row a j))
+pub drop-solid : (k c : ℕ) (row : List Bool) (a : ℕ) → Solid k (rowInkAt row) (c + a) → Solid k (rowInkAt (drop c row)) a
+drop-solid k c row a = solid-same k (rowInkAt row) (rowInkAt (drop c row)) (c + a) a (λ j l. sym (drop-at c row a j))
 
-pub solid-take : (k n : ℕ) (row : List Bool) (a : ℕ) → a + k ≤ n → Solid k (inkAt (take n row)) a → Solid k (inkAt row) a
-solid-take k n row a l = solid-same k (inkAt (take n row)) (inkAt row) a a (λ j w. getD-take n row (a + j) false (omega arith))
+pub solid-take : (k n : ℕ) (row : List Bool) (a : ℕ) → a + k ≤ n → Solid k (rowInkAt (take n row)) a → Solid k (rowInkAt row) a
+solid-take k n row a l = solid-same k (rowInkAt (take n row)) (rowInkAt row) a a (λ j w. getD-take n row (a + j) false (omega arith))
 
-pub take-solid : (k n : ℕ) (row : List Bool) (a : ℕ) → a + k ≤ n → Solid k (inkAt row) a → Solid k (inkAt (take n row)) a
-take-solid k n row a l = solid-same k (inkAt row) (inkAt (take n row)) a a (λ j w. sym (getD-take n row (a + j) false (omega arith)))
+pub take-solid : (k n : ℕ) (row : List Bool) (a : ℕ) → a + k ≤ n → Solid k (rowInkAt row) a → Solid k (rowInkAt (take n row)) a
+take-solid k n row a l = solid-same k (rowInkAt row) (rowInkAt (take n row)) a a (λ j w. sym (getD-take n row (a + j) false (omega arith)))
 
 -- ---- as tests
 pub run-solid : (k n : ℕ) (t : ℕ → Bool) (a : ℕ) → runAt k n t a ≡ true → (a + k ≤ n) × Solid k t a
@@ -79,10 +79,10 @@ solid-in k n t a i from to inside s = run-of k n t i a (record { from = from; to
 pub record Free (k n : ℕ) (t : ℕ → Bool) : Type 0 where
   pub none : (a : ℕ) → a + k ≤ n → Solid k t a → ⊥
 
-pub bare-free : (k n : ℕ) (row : List Bool) → 0 < k → isBare k n row ≡ true → Free k n (inkAt row)
+pub bare-free : (k n : ℕ) (row : List Bool) → 0 < k → isBare k n row ≡ true → Free k n (rowInkAt row)
 unfolding isBare runStart
 bare-free k n row some e =
-    let t = inkAt row in
+    let t = rowInkAt row in
     record {
       none = λ a l s. omega (
         arith,
@@ -91,23 +91,23 @@ bare-free k n row some e =
       );
     }
 
-pub free-bare : (k n : ℕ) (row : List Bool) → Free k n (inkAt row) → isBare k n row ≡ true
+pub free-bare : (k n : ℕ) (row : List Bool) → Free k n (rowInkAt row) → isBare k n row ≡ true
 unfolding isBare runStart
 free-bare k n row free =
-    let t = inkAt row in
+    let t = rowInkAt row in
     eq-eqb (first n (inRun k n t)) n
     (first-none n (inRun k n t)
     (λ i l. falsely (inRun k n t i)
     (λ e. let r = run-at k n t i e in free .none (r .0) (r .1 .inside) (record { all = r .1 .all }))))
 
-pub bare-run : (k n : ℕ) (row : List Bool) → isBare k n row ≡ false → (a : ℕ) × (a + k ≤ n) × Solid k (inkAt row) a
+pub bare-run : (k n : ℕ) (row : List Bool) → isBare k n row ≡ false → (a : ℕ) × (a + k ≤ n) × Solid k (rowInkAt row) a
 unfolding isBare runStart
 bare-run k n row e =
-    let t = inRun k n (inkAt row) in
+    let t = inRun k n (rowInkAt row) in
     let l = first-le n t in
     let ne = eqb-false (first n t) n e in
     let inside : first n t < n = ⊎-elim (λ z. absurd (ne (omega arith))) (λ z. z) (le-or-lt n (first n t)) in
-    let r = run-at k n (inkAt row) (first n t) (first-holds n t inside) in
+    let r = run-at k n (rowInkAt row) (first n t) (first-holds n t inside) in
     (r .0, r .1 .inside, record { all = r .1 .all })
 
 -- ---- where the first run starts

@@ -38,6 +38,6 @@ countSaid (Of rows) = give rows
 countSaid (Refused number) = refuse number
 
 -- The rows that an answer counts; none where it refuses.
-abbrev pub rowsOf : Count → ℕ
-rowsOf (Of rows) = rows
-rowsOf (Refused number) = 0
+abbrev pub countedRows : Count → ℕ
+countedRows (Of rows) = rows
+countedRows (Refused number) = 0

@@ -3,7 +3,7 @@
 ghost use mathlib.Core.Path.{_≡_};
 ghost use Prim.Native.Nat.{_+_, _<_, _≤_};
 ghost use Rattle.noise.specs.Rows.{rowsWith};
-ghost use Rattle.noise.specs.Parts.{clearRows, middleRows, Filled};
+ghost use Rattle.noise.specs.Inner.{clearRows, middleRows, Filled};
 
 // The clear rows of i + 1 pixels from those of fewer, which t lists. A clear row of i + 1 pixels is
 // one that is not ink and a row of i without a run. This is a pixel, ink or not, and a row of i - 1

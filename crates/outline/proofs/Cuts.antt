@@ -9,11 +9,12 @@ use native.Mathlib.Omega.{arith}
 use lib.Dec.{ltb}
 use lib.ListN.{length, getD}
 use borrow.Author.Tests.{le-ltb}
+use Rattle.laws.proofs.Planes.{place-lt}
 use Rattle.laws.specs.Plane.{plane}
-use Rattle.levels.specs.Level.{cells}
-use Rattle.regions.specs.Cells.{cells8}
+use Rattle.levels.specs.Level.{inkOf, cells}
+use Rattle.labels.specs.Cells.{cells8}
 use Rattle.boundary.specs.Boundary.{counts, memberOf, memberAt}
-use Rattle.outline.specs.Scan.{cutOf, Grids}
+use Rattle.outline.specs.Inner.{cutOf, Grids}
 
 pub small-mul : (a b : ℕ) → a ≤ 512 → b ≤ 512 → a * b ≤ 262144
 small-mul a b h k = mul-le-mul {n₁ = a} {m₁ = b} {n₂ = 512} {m₂ = 512} h k
@@ -24,9 +25,6 @@ row-end y w h l = omega (arith, upto, mul-comm w h)
   where
     upto : y * w + w ≤ h * w
     upto = rw (← suc-mul y w) (mul-le-mul-right w l)
-
-pub place-lt : (x y w h : ℕ) → x < w → y < h → y * w + x < w * h
-place-lt x y w h lx ly = omega (arith, row-end y w h ly)
 
 -- a part of a row lies in the picture
 pub row-within : (x n y w h : ℕ) → x + n ≤ w → y < h → y * w + x + n ≤ w * h
@@ -42,7 +40,7 @@ module _ (levels labels : List ℕ) (w h : ℕ) (g : Grids levels labels w h) (x
 -- a member pixel is below its cell's cut
 pub member-cut : (want w : ℕ) (s levels labels : List ℕ) (x y : ℕ)
     → memberAt want w s levels labels x y ≡ ltb (getD s (y * w + x) 0) (cutOf want w levels labels (x / 8) (y / 8))
-unfolding memberAt memberOf cutOf
+unfolding memberAt memberOf inkOf cutOf
 member-cut want w s levels labels x y =
     let ex : x / 16 ≡ x / 8 / 2 = omega arith in
     let ey : y / 16 ≡ y / 8 / 2 = omega arith in

@@ -1,10 +1,9 @@
 -- Laws of the outline door: part-in, fit-in; what an accepted call knows, Passed with passed; points-le; done-answer,
 -- done-list, refused-answer, refused-list. Assumes nothing.
-use mathlib.Core.Path.{_≡_, refl, sym, ap, _∙_}
-use mathlib.Core.Bool.{Bool, true, false}
-use mathlib.Core.List.{List, _++_}
+use mathlib.Core.Path.{_≡_, refl}
+use mathlib.Core.Bool.{Bool, true}
+use mathlib.Core.List.{List}
 use Prim.Native.Nat.{ℕ, zero, suc, _+_, _-_, _*_, _/_, _≤_, _<_}
-use native.Mathlib.Nat.{zero-add}
 use native.Mathlib.Omega.{arith}
 use lib.Dec.{leb, ltb, eqb}
 use lib.ListN.{length, length-append}
@@ -12,13 +11,13 @@ use lib.Ieee.{Float}
 use borrow.Author.Tests.{ltb-true, leb-true, eqb-true}
 use Rattle.laws.specs.Move.{Box}
 use Rattle.laws.proofs.Bools.{and-left, and-right}
-use Rattle.checks.specs.Picture.{isSide}
-use Rattle.checks.proofs.Checked.{check-step, side-in}
+use Rattle.picture_checks.specs.Picture.{isSide}
+use Rattle.picture_checks.proofs.Checked.{check-step, side-in}
 use Rattle.levels.specs.Level.{cells}
-use Rattle.regions.specs.Cells.{cells8}
+use Rattle.labels.specs.Cells.{cells8}
 use Rattle.boundary.specs.Boundary.{rowsFrom, columnsFrom, boundary}
-use Rattle.outline.specs.Door.{isPart, gridsFit, checkOutline, answered, listAfter}
-use Rattle.outline.specs.Scan.{Grids, Wrote}
+use Rattle.outline.specs.Door.{isPart, gridsFit, checkOutline, outlineBy, listAfter}
+use Rattle.outline.specs.Inner.{Grids, Wrote}
 use Rattle.outline.specs.declared.Answer.the-variants.{Points, Refused}
 use Rattle.outline.proofs.Writes.{rows-le, columns-le, wrote-next, wrote-laid}
 
@@ -32,43 +31,43 @@ fit-in w h levels labels t = (
 )
 
 -- what an accepted call knows
-pub record Passed (w h bytes x0 y0 x1 y1 levels labels room : ℕ) : Type 0 where
+pub record Passed (w h bytes : ℕ) (b : Box) (levels labels room : ℕ) : Type 0 where
   pub wide : w ≤ 4096
   pub high : h ≤ 4096
   pub whole : bytes ≡ w * h
-  pub across : x0 < x1
-  pub right : x1 ≤ w
-  pub down : y0 < y1
-  pub bottom : y1 ≤ h
+  pub across : b .x0 < b .x1
+  pub right : b .x1 ≤ w
+  pub down : b .y0 < b .y1
+  pub bottom : b .y1 ≤ h
   pub levelRoom : cells w * cells h ≤ levels
   pub regionRoom : cells8 w * cells8 h ≤ labels
-  pub listRoom : 4 * (x1 - x0 + (y1 - y0)) ≤ room
+  pub listRoom : 4 * (b .x1 - b .x0 + (b .y1 - b .y0)) ≤ room
 
-pub passed : (w h bytes x0 y0 x1 y1 levels labels room : ℕ) → checkOutline w h bytes x0 y0 x1 y1 levels labels room ≡ 0
-    → Passed w h bytes x0 y0 x1 y1 levels labels room
-passed w h bytes x0 y0 x1 y1 levels labels room e =
-    let a = check-step (isSide w) 1 _ (lib.Dec.lit< tt) e in
-    let b = check-step (isSide h) 1 _ (lib.Dec.lit< tt) (a .1) in
-    let c = check-step (eqb bytes (w * h)) 2 _ (lib.Dec.lit< tt) (b .1) in
-    let d = check-step (isPart x0 x1 w) 5 _ (lib.Dec.lit< tt) (c .1) in
-    let f = check-step (isPart y0 y1 h) 5 _ (lib.Dec.lit< tt) (d .1) in
-    let g = check-step (gridsFit w h levels labels) 3 _ (lib.Dec.lit< tt) (f .1) in
-    let i = check-step (leb (4 * (x1 - x0 + (y1 - y0))) room) 3 _ (lib.Dec.lit< tt) (g .1) in
+pub passed : (w h bytes : ℕ) (b : Box) (levels labels room : ℕ) → checkOutline w h bytes b levels labels room ≡ 0
+    → Passed w h bytes b levels labels room
+passed w h bytes b levels labels room e =
+    let tall = check-step (isSide w) 1 _ (lib.Dec.lit< tt) e in
+    let lent = check-step (isSide h) 1 _ (lib.Dec.lit< tt) (tall .1) in
+    let part = check-step (eqb bytes (w * h)) 2 _ (lib.Dec.lit< tt) (lent .1) in
+    let columns = check-step (isPart (b .x0) (b .x1) w) 5 _ (lib.Dec.lit< tt) (part .1) in
+    let rows = check-step (isPart (b .y0) (b .y1) h) 5 _ (lib.Dec.lit< tt) (columns .1) in
+    let grids = check-step (gridsFit w h levels labels) 3 _ (lib.Dec.lit< tt) (rows .1) in
+    let list = check-step (leb (4 * (b .x1 - b .x0 + (b .y1 - b .y0))) room) 3 _ (lib.Dec.lit< tt) (grids .1) in
     record {
-      wide = side-in w (a .0) .1;
-      high = side-in h (b .0) .1;
-      whole = eqb-true bytes (w * h) (c .0);
-      across = part-in x0 x1 w (d .0) .0;
-      right = part-in x0 x1 w (d .0) .1;
-      down = part-in y0 y1 h (f .0) .0;
-      bottom = part-in y0 y1 h (f .0) .1;
-      levelRoom = fit-in w h levels labels (g .0) .0;
-      regionRoom = fit-in w h levels labels (g .0) .1;
-      listRoom = leb-true _ room (i .0);
+      wide = side-in w (tall .0) .1;
+      high = side-in h (lent .0) .1;
+      whole = eqb-true bytes (w * h) (part .0);
+      across = part-in (b .x0) (b .x1) w (columns .0) .0;
+      right = part-in (b .x0) (b .x1) w (columns .0) .1;
+      down = part-in (b .y0) (b .y1) h (rows .0) .0;
+      bottom = part-in (b .y0) (b .y1) h (rows .0) .1;
+      levelRoom = fit-in w h levels labels (grids .0) .0;
+      regionRoom = fit-in w h levels labels (grids .0) .1;
+      listRoom = leb-true _ room (list .0);
     }
 
-pub passed-grids : {w h bytes x0 y0 x1 y1 room : ℕ} (levels labels : List ℕ)
-    → Passed w h bytes x0 y0 x1 y1 (length levels) (length labels) room → Grids levels labels w h
+pub passed-grids : {w h bytes room : ℕ} {b : Box} (levels labels : List ℕ)
+    → Passed w h bytes b (length levels) (length labels) room → Grids levels labels w h
 passed-grids levels labels p = record { wide = p .wide; high = p .high; levelRoom = p .levelRoom; regionRoom = p .regionRoom }
 
 -- two points a line
@@ -85,16 +84,16 @@ points-le k t b =
 
 -- ---- the answer and the list
 module _ {ps : List (ℕ × ℕ)} {l l′ : List Float} {r : ℕ} (n : ℕ) (z : n ≡ 0) (w : Wrote 0 ps l l′ r) where
-  pub done-answer : Points (r / 2) ≡ answered n (length ps)
-  unfolding answered
+  pub done-answer : Points (r / 2) ≡ outlineBy n (length ps)
+  unfolding outlineBy
   done-answer = let e : r / 2 ≡ length ps = omega (arith, wrote-next w) in rw (z, e)
 
   pub done-list : 2 * length ps ≤ length l → l′ ≡ listAfter n ps l
   unfolding listAfter
   done-list fit = rw z (wrote-laid w fit)
 
-pub refused-answer : (n p : ℕ) → (n ≡ 0 → ⊥) → Refused n ≡ answered n p
-unfolding answered
+pub refused-answer : (n p : ℕ) → (n ≡ 0 → ⊥) → Refused n ≡ outlineBy n p
+unfolding outlineBy
 refused-answer zero p z = absurd (z refl)
 refused-answer (suc n) p z = refl
 

@@ -8,12 +8,11 @@ use Prim.Native.Nat.{ℕ, zero, suc, _+_, _-_, _≤_, _<_}
 use native.Mathlib.Nat.{eq-or-lt-of-le, not-suc-le-zero, add-zero}
 use native.Mathlib.Numerals.{add-one}
 use native.Mathlib.Omega.{arith}
-use lib.Dec.{ltb}
 use borrow.Author.Tests.{le-leb, lt-leb, eq-eqb, ne-eqb, lt-ltb, ltb-true}
 use Rattle.laws.proofs.Bools.{clash, falsely, le-or-lt}
 use Rattle.laws.proofs.Folds.{first-at, first-none}
 use Rattle.boundary.specs.Runs.{inRun, runStart, runEnd}
-use Rattle.outline.specs.Scan.{scan, scanStep}
+use Rattle.outline.specs.Inner.{scan, scanStep}
 use Rattle.boundary.proofs.Runs.{run-of, run-at, start-mirror, both-ends, run-end-le}
 
 -- k members in a row from a on

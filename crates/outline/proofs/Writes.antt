@@ -4,7 +4,7 @@
 use mathlib.Core.Path.{_≡_, refl, sym, ap, _∙_, subst}
 use mathlib.Core.Bool.{Bool, true, false, cond}
 use mathlib.Core.List.{List, [], _∷_, _++_, map}
-use Prim.Native.Nat.{ℕ, zero, suc, _+_, _-_, _*_, _≤_, _<_}
+use Prim.Native.Nat.{ℕ, suc, _+_, _-_, _*_, _≤_, _<_}
 use native.Mathlib.Nat.{add-assoc, mul-one}
 use native.Mathlib.Omega.{arith}
 use lib.Dec.{leb, ltb}
@@ -13,15 +13,16 @@ use lib.IntN.{pos}
 use lib.Ieee.{Float, binary32, round, mul, ofInt, ofBits}
 use lib.Ieee.Back.{round-whole}
 use lib.Ieee.Exact.{HasValue}
+use Rattle.hull.proofs.Floats.{length-floats, numbers-append}
 use Rattle.laws.proofs.Stores.{map-append, stored-none, stored-append, stored-ext, stored-length, stored-laid}
 use Rattle.ieee.proofs.Vals.{mul-round}
 use Rattle.laws.specs.Lent.{laid}
 use Rattle.hull.specs.Points.{halfOf, numbersOf, floatsOf}
 use Rattle.laws.proofs.Joined.{joined-more, joined-add, joined-ext, joined-le}
-use Rattle.boundary.specs.Runs.{runStart, runEnd, edges}
+use Rattle.boundary.specs.Runs.{runStart, edges}
 use Rattle.boundary.specs.Boundary.{rowPoints, columnPoints, rowsFrom, columnsFrom}
 use Rattle.laws.specs.Fold.{joined}
-use Rattle.outline.specs.Scan.{columnFound, Wrote}
+use Rattle.outline.specs.Inner.{columnFound, Wrote}
 
 -- ---- a line has two points or none
 two-le : (b : Bool) (p q : ℕ) (f : ℕ → ℕ × ℕ) → length (map f (cond b (p ∷ q ∷ []) [])) ≤ 2
@@ -36,11 +37,11 @@ pub column-two : (k : ℕ) (t : ℕ → ℕ → Bool) (y0 n x : ℕ) → length 
 unfolding columnPoints edges
 column-two k t y0 n x = two-le (ltb (runStart k n (λ j. t x (y0 + j))) n) _ _ _
 
-pub found-two : (y0 n x d u : ℕ) → length (columnFound y0 n x d u) ≤ 2
+pub found-two : (run y0 n x d u : ℕ) → length (columnFound run y0 n x d u) ≤ 2
 unfolding columnFound
-found-two y0 n x d u = go (leb 4 d)
+found-two run y0 n x d u = go (leb run d)
   where
-    go : (b : Bool) → length {A = ℕ × ℕ} (cond b ((2 * x + 1, 2 * (y0 + (d - 4))) ∷ (2 * x + 1, 2 * (y0 + (n + 4 - u))) ∷ []) []) ≤ 2
+    go : (b : Bool) → length {A = ℕ × ℕ} (cond b ((2 * x + 1, 2 * (y0 + (d - run))) ∷ (2 * x + 1, 2 * (y0 + (n + run - u))) ∷ []) []) ≤ 2
     go true = omega arith
     go false = omega arith
 
@@ -53,22 +54,9 @@ unfolding columnsFrom
 columns-le k t y0 n x0 m = joined-le 2 m (λ i. columnPoints k t y0 n (x0 + i)) (λ i. column-two k t y0 n (x0 + i))
 
 -- ---- numbers of points
-pub numbers-append : (l m : List (ℕ × ℕ)) → numbersOf (l ++ m) ≡ numbersOf l ++ numbersOf m
-unfolding numbersOf
-numbers-append [] m = refl
-numbers-append (q ∷ l) m = ap (λ (t : List ℕ). q .0 ∷ q .1 ∷ t) (numbers-append l m)
-
 pub floats-append : (l m : List (ℕ × ℕ)) → floatsOf (l ++ m) ≡ floatsOf l ++ floatsOf m
 unfolding floatsOf
 floats-append l m = ap (map halfOf) (numbers-append l m) ∙ map-append halfOf (numbersOf l) (numbersOf m)
-
-pub length-floats : (l : List (ℕ × ℕ)) → length (floatsOf l) ≡ 2 * length l
-unfolding floatsOf numbersOf
-length-floats [] = refl
-length-floats (q ∷ l) = two (length (floatsOf l)) (length l) (length-floats l)
-  where
-    two : (a b : ℕ) → a ≡ 2 * b → suc (suc a) ≡ 2 * suc b
-    two a b e = omega arith
 
 -- ---- stores
 pub wrote-none : (at : ℕ) (l : List Float) → Wrote at [] l l at
@@ -120,30 +108,30 @@ module _ (f : ℕ → List (ℕ × ℕ)) where
   room-more i n few w h room = omega (arith, wrote-next w, joined-le 2 i f few, wrote-length w)
 
 -- strip by strip
-module _ (t : ℕ → ℕ → Bool) (y0 rows x0 : ℕ) where
-  pub strip-begin : (at : ℕ) (l : List Float) → Wrote at (columnsFrom 4 t y0 rows x0 0) l l at
+module _ (run : ℕ) (t : ℕ → ℕ → Bool) (y0 rows x0 : ℕ) where
+  pub strip-begin : (at : ℕ) (l : List Float) → Wrote at (columnsFrom run t y0 rows x0 0) l l at
   unfolding columnsFrom
-  strip-begin at l = put-begin (λ i. columnPoints 4 t y0 rows (x0 + i)) at l
+  strip-begin at l = put-begin (λ i. columnPoints run t y0 rows (x0 + i)) at l
 
-  pub strip-more : {l l′ l″ : List Float} {at r r′ : ℕ} (n m : ℕ) → Wrote at (columnsFrom 4 t y0 rows x0 n) l l′ r
-      → Wrote r (columnsFrom 4 t y0 rows (x0 + n) m) l′ l″ r′ → Wrote at (columnsFrom 4 t y0 rows x0 (n + m)) l l″ r′
+  pub strip-more : {l l′ l″ : List Float} {at r r′ : ℕ} (n m : ℕ) → Wrote at (columnsFrom run t y0 rows x0 n) l l′ r
+      → Wrote r (columnsFrom run t y0 rows (x0 + n) m) l′ l″ r′ → Wrote at (columnsFrom run t y0 rows x0 (n + m)) l l″ r′
   strip-more n m v w =
-      wrote-ext (columnsFrom 4 t y0 rows x0 n ++ columnsFrom 4 t y0 rows (x0 + n) m) (columnsFrom 4 t y0 rows x0 (n + m)) same
+      wrote-ext (columnsFrom run t y0 rows x0 n ++ columnsFrom run t y0 rows (x0 + n) m) (columnsFrom run t y0 rows x0 (n + m)) same
       (wrote-append v w)
     where
-      same : columnsFrom 4 t y0 rows x0 n ++ columnsFrom 4 t y0 rows (x0 + n) m ≡ columnsFrom 4 t y0 rows x0 (n + m)
+      same : columnsFrom run t y0 rows x0 n ++ columnsFrom run t y0 rows (x0 + n) m ≡ columnsFrom run t y0 rows x0 (n + m)
       same =
           unfold columnsFrom in
-          ap (λ (l : List (ℕ × ℕ)). joined n (λ i. columnPoints 4 t y0 rows (x0 + i)) ++ l)
-          (joined-ext m (λ i. columnPoints 4 t y0 rows (x0 + n + i)) (λ i. columnPoints 4 t y0 rows (x0 + (n + i)))
-          (λ i l. ap (columnPoints 4 t y0 rows) (add-assoc x0 n i)))
-          ∙ sym (joined-add n m (λ i. columnPoints 4 t y0 rows (x0 + i)))
+          ap (λ (l : List (ℕ × ℕ)). joined n (λ i. columnPoints run t y0 rows (x0 + i)) ++ l)
+          (joined-ext m (λ i. columnPoints run t y0 rows (x0 + n + i)) (λ i. columnPoints run t y0 rows (x0 + (n + i)))
+          (λ i l. ap (columnPoints run t y0 rows) (add-assoc x0 n i)))
+          ∙ sym (joined-add n m (λ i. columnPoints run t y0 rows (x0 + i)))
 
   -- room for m columns more
-  pub room-strip : {l l′ : List Float} {at r : ℕ} (i m n : ℕ) → Wrote at (columnsFrom 4 t y0 rows x0 i) l l′ r → i + m ≤ n
+  pub room-strip : {l l′ : List Float} {at r : ℕ} (i m n : ℕ) → Wrote at (columnsFrom run t y0 rows x0 i) l l′ r → i + m ≤ n
       → at + 4 * n ≤ length l
       → r + 4 * m ≤ length l′
-  room-strip i m n w h room = omega (arith, wrote-next w, columns-le 4 t y0 rows x0 i, wrote-length w)
+  room-strip i m n w h room = omega (arith, wrote-next w, columns-le run t y0 rows x0 i, wrote-length w)
 
 -- ---- halves
 pub half-is : (n : ℕ) → n ≤ 16384 → mul binary32 (ofInt binary32 (pos n)) (ofBits binary32 0x3f00_0000) ≡ halfOf n

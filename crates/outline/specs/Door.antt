@@ -1,16 +1,17 @@
--- The outline door, as document 01 has it under "Doors and their checks, in order": refusals in the table's order, its answer, and the lent
+-- The outline door: its refusals in order, its answer, and the lent
 -- list afterwards. Definitions only. Assumes nothing.
 use mathlib.Core.Bool.{Bool, _&&_}
 use mathlib.Core.List.{List}
 use Prim.Native.Nat.{ℕ, zero, suc, _+_, _-_, _*_}
 use lib.Dec.{leb, ltb}
+use lib.ListN.{length}
 use lib.Ieee.{Float}
 use Rattle.laws.specs.Check.{orRefuse}
 use Rattle.laws.specs.Said.{Said, refuse, give}
 use Rattle.laws.specs.Move.{Box}
-use Rattle.checks.specs.Picture.{checkPicture}
+use Rattle.picture_checks.specs.Picture.{checkPicture}
 use Rattle.levels.specs.Level.{cells}
-use Rattle.regions.specs.Cells.{cells8}
+use Rattle.labels.specs.Cells.{cells8}
 use Rattle.laws.specs.Lent.{laid}
 use Rattle.hull.specs.Points.{floatsOf}
 use Rattle.boundary.specs.Boundary.{memberAt, boundary}
@@ -26,30 +27,26 @@ abbrev pub gridsFit : ℕ → ℕ → ℕ → ℕ → Bool
 gridsFit w h levels labels = leb (cells w * cells h) levels && leb (cells8 w * cells8 h) labels
 
 -- 5: box not 0 ≤ x0 < x1 ≤ width, same for y. 3: grids, or list below 4 × (box width + height) numbers. 0: no refusal.
-abbrev pub checkParts : ℕ → ℕ → ℕ → ℕ → ℕ → ℕ → ℕ → ℕ → ℕ → ℕ
-checkParts w h x0 y0 x1 y1 levels labels room =
-    orRefuse (isPart x0 x1 w) 5
-    (orRefuse (isPart y0 y1 h) 5
+abbrev pub checkParts : ℕ → ℕ → Box → ℕ → ℕ → ℕ → ℕ
+checkParts w h b levels labels room =
+    orRefuse (isPart (b .x0) (b .x1) w) 5
+    (orRefuse (isPart (b .y0) (b .y1) h) 5
     (orRefuse (gridsFit w h levels labels) 3
-    (orRefuse (leb (4 * (x1 - x0 + (y1 - y0))) room) 3
+    (orRefuse (leb (4 * (b .x1 - b .x0 + (b .y1 - b .y0))) room) 3
     0)))
 
 -- The checks of the picture, 1 and 2, then these.
-abbrev pub checkOutline : ℕ → ℕ → ℕ → ℕ → ℕ → ℕ → ℕ → ℕ → ℕ → ℕ → ℕ
-checkOutline w h bytes x0 y0 x1 y1 levels labels room = checkPicture w h bytes (checkParts w h x0 y0 x1 y1 levels labels room)
-
--- The box from x0, y0, which is within, to x1, y1, which is not.
-abbrev pub boxAt : ℕ → ℕ → ℕ → ℕ → Box
-boxAt x0 y0 x1 y1 = record { x0 = x0; y0 = y0; x1 = x1; y1 = y1 }
+abbrev pub checkOutline : ℕ → ℕ → ℕ → Box → ℕ → ℕ → ℕ → ℕ
+checkOutline w h bytes b levels labels room = checkPicture w h bytes (checkParts w h b levels labels room)
 
 -- The points that the door lists: of a box of the picture s of width w, with its thresholds and labels, for the wanted label or any.
-unfoldable pub doorPoints : ℕ → ℕ → List ℕ → List ℕ → List ℕ → ℕ → ℕ → ℕ → ℕ → List (ℕ × ℕ)
-doorPoints want w s levels labels x0 y0 x1 y1 = boundary 4 (memberAt want w s levels labels) (boxAt x0 y0 x1 y1)
+unfoldable pub doorPoints : ℕ → ℕ → List ℕ → List ℕ → List ℕ → Box → List (ℕ × ℕ)
+doorPoints want w s levels labels b = boundary 4 (memberAt want w s levels labels) b
 
 -- The answer for the number of a refusal, or how many points there are.
-unfoldable pub answered : ℕ → ℕ → Answer
-answered zero points = Points points
-answered (suc n) points = Refused (suc n)
+unfoldable pub outlineBy : ℕ → ℕ → Answer
+outlineBy zero points = Points points
+outlineBy (suc n) points = Refused (suc n)
 
 -- What an answer says: how many points.
 abbrev pub outlineSaid : Answer → Said ℕ
@@ -60,3 +57,18 @@ outlineSaid (Refused n) = refuse n
 unfoldable pub listAfter : ℕ → List (ℕ × ℕ) → List Float → List Float
 listAfter zero points old = laid (floatsOf points) old
 listAfter (suc n) points old = old
+
+-- ---- a call: the picture s of w by h, its thresholds and labels, the wanted label or 0, a box, and the lent list
+-- The number of its first check that fails, or 0, with room for so many numbers.
+abbrev pub numberFor : List ℕ → List ℕ → List ℕ → ℕ → ℕ → Box → ℕ → ℕ
+numberFor s levels labels w h b room = checkOutline w h (length s) b (length levels) (length labels) room
+
+-- Its answer.
+abbrev pub outlineAnswer : List ℕ → List ℕ → List ℕ → ℕ → ℕ → ℕ → Box → ℕ → Answer
+outlineAnswer s levels labels want w h b room =
+    outlineBy (numberFor s levels labels w h b room) (length (doorPoints want w s levels labels b))
+
+-- The lent list after it.
+abbrev pub outlineAfter : List ℕ → List ℕ → List ℕ → ℕ → ℕ → ℕ → Box → List Float → List Float
+outlineAfter s levels labels want w h b old =
+    listAfter (numberFor s levels labels w h b (length old)) (doorPoints want w s levels labels b) old

@@ -2,7 +2,7 @@
 ghost use mathlib.Core.Path.{_≡_};
 ghost use Prim.Native.Nat.{_+_, _/_, _<_, _≤_};
 ghost use Rattle.boundary.specs.Boundary.{counts as Counts};
-ghost use Rattle.outline.specs.Scan.{toward, cutOf, Grids};
+ghost use Rattle.outline.specs.Inner.{toward, cutOf, Grids};
 
 // Place k of the n places from a on, from either end.
 pub fn place(back: bool, a: usize, n: usize, k: usize) -> usize

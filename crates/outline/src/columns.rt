@@ -1,4 +1,5 @@
-// Boundary points of columns, strip by strip, and of a whole box.
+// Boundary points of columns, strip by strip, and of a whole box. run is the shortest run that
+// counts.
 use crate::rows::all_rows;
 use crate::stores::put_two;
 use crate::sweep::none_found;
@@ -6,13 +7,13 @@ use crate::sweep::scan_columns;
 ghost use mathlib.Core.Path.{_≡_};
 ghost use Prim.Native.Nat.{_+_, _-_, _*_, _<_, _≤_};
 ghost use lib.ListN.{length};
+ghost use Rattle.laws.specs.Move.{boxAt};
 ghost use Rattle.boundary.specs.Boundary.{memberAt, columnsFrom, boundary};
-ghost use Rattle.outline.specs.Door.{boxAt};
-ghost use Rattle.outline.specs.Scan.{Grids, Columns, columnFound, columnsFound, AtMost};
-ghost use Rattle.outline.specs.Scan.{Wrote};
+ghost use Rattle.outline.specs.Inner.{Grids, Columns, columnFound, columnsFound, AtMost, Wrote};
 
 // Stores the points of column x, whose scans of n rows from y0 on ended in d and u.
 fn put_column(
+    run: usize,
     out: &mut [f32],
     to: usize,
     y0: usize,
@@ -22,23 +23,26 @@ fn put_column(
     u: usize,
 ) -> usize
     requires { ⌜ (to + 4 ≤ length (now out)) × (d ≤ n) × (u ≤ n) × (y0 + n ≤ 4096) × (x < 4096) ⌝ }
-    ensures { λ r. ⌜ Wrote to (columnFound y0 n x d u) (now (out .entry)) (now (out .exit)) r ⌝ }
+    requires { ⌜ run ≤ 8 ⌝ }
+    ensures { λ r. ⌜
+        Wrote to (columnFound run y0 n x d u) (now (out .entry)) (now (out .exit)) r ⌝ }
 {
-    if d < 4 {
+    if d < run {
         return to;
     }
     put_two(
         out,
         to,
         2 * x + 1,
-        2 * (y0 + (d - 4)),
+        2 * (y0 + (d - run)),
         2 * x + 1,
-        2 * (y0 + (n + 4 - u)),
+        2 * (y0 + (n + run - u)),
     )
 }
 
 // Stores the points of the n columns from x on.
 fn put_columns(
+    run: usize,
     down: &[u16; 64],
     up: &[u16; 64],
     x: usize,
@@ -54,14 +58,17 @@ fn put_columns(
         × (y0 + rows ≤ 4096)
         × (at + 4 * n ≤ length (now out)) ⌝ }
     requires { ⌜ AtMost n rows (now down) × AtMost n rows (now up) ⌝ }
+    requires { ⌜ run ≤ 8 ⌝ }
     ensures { λ r. ⌜
-        Wrote at (columnsFound (now (down .entry)) (now (up .entry)) y0 rows x n) (now (out .entry))
-        (now (out .exit)) r ⌝ }
+        Wrote at (columnsFound run (now (down .entry)) (now (up .entry)) y0 rows x n)
+        (now (out .entry)) (now (out .exit)) r ⌝ }
 {
     let mut to = at;
     let mut i = 0;
     while i < n {
-        to = put_column(out, to, y0, rows, x + i, down[i] as usize, up[i] as usize);
+        let d = down[i] as usize;
+        let u = up[i] as usize;
+        to = put_column(run, out, to, y0, rows, x + i, d, u);
         i += 1;
     }
     to
@@ -73,6 +80,7 @@ fn strip(
     levels: &[u8],
     labels: &[u32],
     want: u32,
+    run: usize,
     w: usize,
     h: usize,
     x: usize,
@@ -85,19 +93,21 @@ fn strip(
     requires { ⌜ Grids (now levels) (now labels) w h ⌝ }
     requires { ⌜ Columns (now s) w h x n y0 m ⌝ }
     requires { ⌜ (0 < n) × (n ≤ 64) × (at + 4 * n ≤ length (now out)) ⌝ }
+    requires { ⌜ (0 < run) × (run ≤ 8) ⌝ }
     ensures { λ r. ⌜
-        Wrote at (columnsFrom 4
+        Wrote at (columnsFrom run
         (memberAt want w (now (s .entry)) (now (levels .entry)) (now (labels .entry))) y0 m x
         n) (now (out .entry)) (now (out .exit)) r ⌝ }
 {
-    let mut down = [0u16; 64];
-    let mut up = [0u16; 64];
-    scan_columns(s, levels, labels, want, w, h, x, n, y0, m, false, &mut down);
-    if none_found(&down, n) {
+    let r = run as u16;
+    let mut d = [0u16; 64];
+    let mut u = [0u16; 64];
+    scan_columns(s, levels, labels, want, r, w, h, x, n, y0, m, false, &mut d);
+    if none_found(r, &d, n) {
         return at;
     }
-    scan_columns(s, levels, labels, want, w, h, x, n, y0, m, true, &mut up);
-    put_columns(&down, &up, x, n, y0, m, out, at)
+    scan_columns(s, levels, labels, want, r, w, h, x, n, y0, m, true, &mut u);
+    put_columns(run, &d, &u, x, n, y0, m, out, at)
 }
 
 // At most 64.
@@ -117,6 +127,7 @@ fn all_columns(
     levels: &[u8],
     labels: &[u32],
     want: u32,
+    run: usize,
     w: usize,
     h: usize,
     x0: usize,
@@ -129,8 +140,9 @@ fn all_columns(
     requires { ⌜ Grids (now levels) (now labels) w h ⌝ }
     requires { ⌜ Columns (now s) w h x0 n y0 m ⌝ }
     requires { ⌜ at + 4 * n ≤ length (now out) ⌝ }
+    requires { ⌜ (0 < run) × (run ≤ 8) ⌝ }
     ensures { λ r. ⌜
-        Wrote at (columnsFrom 4
+        Wrote at (columnsFrom run
         (memberAt want w (now (s .entry)) (now (levels .entry)) (now (labels .entry))) y0 m
         x0 n) (now (out .entry)) (now (out .exit)) r ⌝ }
 {
@@ -138,7 +150,8 @@ fn all_columns(
     let mut i: usize = 0;
     while i < n {
         let wide = strip_width(n - i);
-        to = strip(s, levels, labels, want, w, h, x0 + i, wide, y0, m, out, to);
+        let x = x0 + i;
+        to = strip(s, levels, labels, want, run, w, h, x, wide, y0, m, out, to);
         i += wide;
     }
     to
@@ -150,6 +163,7 @@ pub fn boundary_points(
     levels: &[u8],
     labels: &[u32],
     want: u32,
+    run: usize,
     w: usize,
     h: usize,
     x0: usize,
@@ -166,12 +180,13 @@ pub fn boundary_points(
         × (y0 < y1)
         × (y1 ≤ h)
         × (4 * (x1 - x0 + (y1 - y0)) ≤ length (now out)) ⌝ }
+    requires { ⌜ (0 < run) × (run ≤ 8) ⌝ }
     ensures { λ r. ⌜
-        Wrote 0 (boundary 4 (memberAt want w (now (s .entry)) (now (levels .entry))
+        Wrote 0 (boundary run (memberAt want w (now (s .entry)) (now (levels .entry))
         (now (labels .entry))) (boxAt x0 y0 x1 y1)) (now (out .entry)) (now (out .exit)) r ⌝ }
 {
     let n = x1 - x0;
     let m = y1 - y0;
-    let at = all_rows(s, levels, labels, want, w, h, x0, n, y0, m, out);
-    all_columns(s, levels, labels, want, w, h, x0, n, y0, m, out, at)
+    let at = all_rows(s, levels, labels, want, run, w, h, x0, n, y0, m, out);
+    all_columns(s, levels, labels, want, run, w, h, x0, n, y0, m, out, at)
 }

@@ -1,7 +1,8 @@
 // Boundary points of a box of a picture, and the outline door.
 ghost use mathlib.Core.Path.{_≡_};
 ghost use lib.ListN.{length};
-ghost use Rattle.outline.specs.Door.{checkOutline, doorPoints, answered, listAfter};
+ghost use Rattle.laws.specs.Move.{boxAt};
+ghost use Rattle.outline.specs.Door.{outlineAnswer, outlineAfter};
 
 mod cells;
 mod columns;
@@ -33,18 +34,12 @@ pub fn outline(
     y1: usize,
     out: &mut [f32],
 ) -> Answer
-    ensures { λ r. ⌜
-        r ≡ answered (checkOutline w h (length (now (s .entry))) x0 y0 x1 y1
-        (length (now (levels .entry))) (length (now (labels .entry)))
-        (length (now (out .entry))))
-        (length (doorPoints want w (now (s .entry)) (now (levels .entry))
-        (now (labels .entry)) x0 y0 x1 y1)) ⌝ }
-    ensures { λ _. ⌜
-        now (out .exit) ≡ listAfter
-        (checkOutline w h (length (now (s .entry))) x0 y0 x1 y1 (length (now (levels .entry)))
-        (length (now (labels .entry))) (length (now (out .entry))))
-        (doorPoints want w (now (s .entry)) (now (levels .entry))
-        (now (labels .entry)) x0 y0 x1 y1) (now (out .entry)) ⌝ }
+    ensures answer { λ r. ⌜
+        r ≡ outlineAnswer (now (s .entry)) (now (levels .entry)) (now (labels .entry)) want w h
+        (boxAt x0 y0 x1 y1) (length (now (out .entry))) ⌝ }
+    ensures out { λ _. ⌜
+        now (out .exit) ≡ outlineAfter (now (s .entry)) (now (levels .entry))
+        (now (labels .entry)) want w h (boxAt x0 y0 x1 y1) (now (out .entry)) ⌝ }
 {
     let bytes = s.len();
     let grid = levels.len();
@@ -52,7 +47,7 @@ pub fn outline(
     let room = out.len();
     let n = refusals::check(w, h, bytes, x0, y0, x1, y1, grid, cells, room);
     if n == 0 {
-        let end = columns::boundary_points(s, levels, labels, want, w, h, x0, y0, x1, y1, out);
+        let end = columns::boundary_points(s, levels, labels, want, 4, w, h, x0, y0, x1, y1, out);
         return Answer::Points(end / 2);
     }
     Answer::Refused(n)

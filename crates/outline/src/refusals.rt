@@ -1,8 +1,9 @@
 // The checks of the outline door, in the order of its table.
 ghost use mathlib.Core.Path.{_≡_};
 ghost use Prim.Native.Nat.{_≤_};
+ghost use Rattle.laws.specs.Move.{boxAt};
 ghost use Rattle.outline.specs.Door.{isPart, gridsFit, checkParts, checkOutline};
-use checks::check_picture;
+use picture_checks::check_picture;
 
 // Whether a..e is a part of a side of n pixels that is not empty.
 fn is_part(a: usize, e: usize, n: usize) -> bool
@@ -38,7 +39,7 @@ fn check_parts(
     room: usize,
 ) -> u32
     requires { ⌜ (w ≤ 4096) × (h ≤ 4096) ⌝ }
-    ensures { λ r. ⌜ r ≡ checkParts w h x0 y0 x1 y1 levels labels room ⌝ }
+    ensures { λ r. ⌜ r ≡ checkParts w h (boxAt x0 y0 x1 y1) levels labels room ⌝ }
 {
     if !is_part(x0, x1, w) {
         return 5;
@@ -68,7 +69,7 @@ pub fn check(
     labels: usize,
     room: usize,
 ) -> u32
-    ensures { λ r. ⌜ r ≡ checkOutline w h bytes x0 y0 x1 y1 levels labels room ⌝ }
+    ensures { λ r. ⌜ r ≡ checkOutline w h bytes (boxAt x0 y0 x1 y1) levels labels room ⌝ }
 {
     let n = check_picture(w, h, bytes);
     if n != 0 {

@@ -1,6 +1,6 @@
-// Boundary points of rows. A row is searched from either end for its first run of 4. Where no run
-// can start at k because of a pixel at k + i, it is searched from k + i + 1 on: the pixel at k + 3
-// is looked at first.
+// Boundary points of rows. run is the shortest run that counts. A row is searched from either end
+// for its first one. Where none can start at k because of a pixel at k + i, it is searched from
+// k + i + 1 on: the last of the run pixels from k on is looked at first.
 use crate::cells::cut_at;
 use crate::cells::place;
 use crate::stores::put_two;
@@ -10,7 +10,7 @@ ghost use Prim.Native.Nat.{_+_, _*_, _<_, _≤_};
 ghost use lib.ListN.{length};
 ghost use Rattle.boundary.specs.Runs.{runStart};
 ghost use Rattle.boundary.specs.Boundary.{memberAt, rowPoints, rowsFrom};
-ghost use Rattle.outline.specs.Scan.{rowLine, extremesOf, skipOf, Grids, Wrote};
+ghost use Rattle.outline.specs.Inner.{rowLine, extremesOf, skipOf, Grids, Wrote};
 
 // Start of the first and end of the last run, or none.
 pub enum Extremes {
@@ -61,12 +61,13 @@ fn at(
     member(s, levels, labels, want, w, h, x, y)
 }
 
-// How many places from k on no run can start at; 0 where a run of 4 starts at k.
+// How many places from k on no run can start at; 0 where one starts at k.
 fn skip(
     s: &[u8],
     levels: &[u8],
     labels: &[u32],
     want: u32,
+    run: usize,
     w: usize,
     h: usize,
     x0: usize,
@@ -76,25 +77,20 @@ fn skip(
     k: usize,
 ) -> usize
     requires { ⌜ Grids (now levels) (now labels) w h ⌝ }
-    requires { ⌜ (length (now s) ≡ w * h) × (x0 + n ≤ w) × (y < h) × (k + 4 ≤ n) ⌝ }
+    requires { ⌜ (length (now s) ≡ w * h) × (x0 + n ≤ w) × (y < h) × (k + run ≤ n) ⌝ }
     ensures { λ r. ⌜
-        (r ≡ skipOf (rowLine (memberAt want w (now (s .entry)) (now (levels .entry))
+        (r ≡ skipOf run (rowLine (memberAt want w (now (s .entry)) (now (levels .entry))
         (now (labels .entry))) x0 n y back) k)
-        × (r ≤ 4) ⌝ }
+        × (r ≤ run) ⌝ }
 {
-    if at(s, levels, labels, want, w, h, x0, n, y, back, k + 3) {
-        if at(s, levels, labels, want, w, h, x0, n, y, back, k + 2) {
-            if at(s, levels, labels, want, w, h, x0, n, y, back, k + 1) {
-                if at(s, levels, labels, want, w, h, x0, n, y, back, k) {
-                    return 0;
-                }
-                return 1;
-            }
-            return 2;
+    let mut j = run;
+    while 0 < j {
+        if !at(s, levels, labels, want, w, h, x0, n, y, back, k + (j - 1)) {
+            return j;
         }
-        return 3;
+        j -= 1;
     }
-    4
+    0
 }
 
 // Where the first run of row y starts, from either end; n where there is none.
@@ -103,6 +99,7 @@ fn first_run(
     levels: &[u8],
     labels: &[u32],
     want: u32,
+    run: usize,
     w: usize,
     h: usize,
     x0: usize,
@@ -112,15 +109,16 @@ fn first_run(
 ) -> usize
     requires { ⌜ Grids (now levels) (now labels) w h ⌝ }
     requires { ⌜ (length (now s) ≡ w * h) × (x0 + n ≤ w) × (y < h) ⌝ }
+    requires { ⌜ (0 < run) × (run ≤ 8) ⌝ }
     ensures { λ r. ⌜
-        (r ≡ runStart 4 n (rowLine
+        (r ≡ runStart run n (rowLine
         (memberAt want w (now (s .entry)) (now (levels .entry)) (now (labels .entry))) x0 n y
         back))
         × (r ≤ n) ⌝ }
 {
     let mut k: usize = 0;
-    while k + 4 <= n {
-        let d = skip(s, levels, labels, want, w, h, x0, n, y, back, k);
+    while k + run <= n {
+        let d = skip(s, levels, labels, want, run, w, h, x0, n, y, back, k);
         if d == 0 {
             return k;
         }
@@ -135,6 +133,7 @@ fn run_extremes(
     levels: &[u8],
     labels: &[u32],
     want: u32,
+    run: usize,
     w: usize,
     h: usize,
     x0: usize,
@@ -143,14 +142,15 @@ fn run_extremes(
 ) -> Extremes
     requires { ⌜ Grids (now levels) (now labels) w h ⌝ }
     requires { ⌜ (length (now s) ≡ w * h) × (x0 + n ≤ w) × (y < h) ⌝ }
+    requires { ⌜ (0 < run) × (run ≤ 8) ⌝ }
     ensures { λ r. ⌜
-        r ≡ extremesOf 4 n (rowLine
+        r ≡ extremesOf run n (rowLine
         (memberAt want w (now (s .entry)) (now (levels .entry)) (now (labels .entry))) x0 n y
         false) ⌝ }
 {
-    let a = first_run(s, levels, labels, want, w, h, x0, n, y, false);
+    let a = first_run(s, levels, labels, want, run, w, h, x0, n, y, false);
     if a < n {
-        let b = first_run(s, levels, labels, want, w, h, x0, n, y, true);
+        let b = first_run(s, levels, labels, want, run, w, h, x0, n, y, true);
         return Extremes::Ends(a, n - b);
     }
     Extremes::NoRun
@@ -162,6 +162,7 @@ fn row_points(
     levels: &[u8],
     labels: &[u32],
     want: u32,
+    run: usize,
     w: usize,
     h: usize,
     x0: usize,
@@ -172,12 +173,13 @@ fn row_points(
 ) -> usize
     requires { ⌜ Grids (now levels) (now labels) w h ⌝ }
     requires { ⌜ (length (now s) ≡ w * h) × (x0 + n ≤ w) × (y < h) × (to + 4 ≤ length (now out)) ⌝ }
+    requires { ⌜ (0 < run) × (run ≤ 8) ⌝ }
     ensures { λ r. ⌜
-        Wrote to (rowPoints 4
+        Wrote to (rowPoints run
         (memberAt want w (now (s .entry)) (now (levels .entry)) (now (labels .entry))) x0 n y)
         (now (out .entry)) (now (out .exit)) r ⌝ }
 {
-    let Extremes::Ends(a, b) = run_extremes(s, levels, labels, want, w, h, x0, n, y) else {
+    let Extremes::Ends(a, b) = run_extremes(s, levels, labels, want, run, w, h, x0, n, y) else {
         return to;
     };
     put_two(out, to, 2 * (x0 + a), 2 * y + 1, 2 * (x0 + b), 2 * y + 1)
@@ -189,6 +191,7 @@ pub fn all_rows(
     levels: &[u8],
     labels: &[u32],
     want: u32,
+    run: usize,
     w: usize,
     h: usize,
     x0: usize,
@@ -203,14 +206,15 @@ pub fn all_rows(
         × (x0 + n ≤ w)
         × (y0 + m ≤ h)
         × (4 * m ≤ length (now out)) ⌝ }
+    requires { ⌜ (0 < run) × (run ≤ 8) ⌝ }
     ensures { λ r. ⌜
-        Wrote 0 (rowsFrom 4 (memberAt want w (now (s .entry)) (now (levels .entry))
+        Wrote 0 (rowsFrom run (memberAt want w (now (s .entry)) (now (levels .entry))
         (now (labels .entry))) x0 n y0 m) (now (out .entry)) (now (out .exit)) r ⌝ }
 {
     let mut to: usize = 0;
     let mut i: usize = 0;
     while i < m {
-        to = row_points(s, levels, labels, want, w, h, x0, n, y0 + i, out, to);
+        to = row_points(s, levels, labels, want, run, w, h, x0, n, y0 + i, out, to);
         i += 1;
     }
     to

@@ -4,7 +4,7 @@ ghost use mathlib.Core.List.{[], _∷_};
 ghost use Prim.Native.Nat.{_+_, _≤_};
 ghost use lib.ListN.{length};
 ghost use Rattle.hull.specs.Points.{halfOf};
-ghost use Rattle.outline.specs.Scan.{Wrote};
+ghost use Rattle.outline.specs.Inner.{Wrote};
 
 // The f32 number n / 2.
 fn half(n: usize) -> f32

@@ -1,6 +1,6 @@
-// Scans of strips of at most 64 columns, row by row, from the top or from the bottom. A column's
-// state is one number: below 4 the run so far, from 4 on the first run was found and starts at
-// state - 4.
+// Scans of strips of at most 64 columns, row by row, from the top or from the bottom. run is the
+// shortest run that counts. A column's state is one number: below run the run so far, from run on
+// the first run was found and starts at state - run.
 use crate::cells::cut_again;
 use crate::cells::cut_at;
 use crate::cells::place;
@@ -10,8 +10,7 @@ ghost use Prim.Native.Nat.{ℕ, _+_, _*_, _/_, _<_, _≤_};
 ghost use lib.Dec.{ltb};
 ghost use lib.ListN.{getD, length};
 ghost use Rattle.boundary.specs.Boundary.{memberAt};
-ghost use Rattle.outline.specs.Scan.{scanStep, Grids, Columns, CutRow, partOf, Stepped};
-ghost use Rattle.outline.specs.Scan.{Swept, AtMost};
+ghost use Rattle.outline.specs.Inner.{scanStep, Grids, Columns, CutRow, partOf, Stepped, Swept, AtMost};
 
 // a, or b where c is false.
 fn pick(c: bool, a: u16, b: u16) -> u16
@@ -22,14 +21,14 @@ fn pick(c: bool, a: u16, b: u16) -> u16
 
 // One pixel p more of a column, with the threshold t. Without branches, so that columns go side by
 // side.
-fn next_state(state: u16, p: u8, t: u8, k: u16) -> u16
+fn next_state(run: u16, state: u16, p: u8, t: u8, k: u16) -> u16
     requires { ⌜ (k < 4096) × (state ≤ 4096) ⌝ }
-    ensures { λ r. ⌜ r ≡ scanStep 4 state (ltb p t) k ⌝ }
+    ensures { λ r. ⌜ r ≡ scanStep run state (ltb p t) k ⌝ }
 {
     let more = state + 1;
-    let grown = pick(more == 4, k + 1, more);
+    let grown = pick(more == run, k + 1, more);
     let kept = pick(p < t, grown, 0);
-    pick(4 <= state, state, kept)
+    pick(run <= state, state, kept)
 }
 
 // The thresholds of the n pixels from x on in row y.
@@ -88,22 +87,23 @@ fn refill(
 }
 
 // One row more for each column of a strip.
-fn step_row(row: &[u8], cuts: &[u8; 64], state: &mut [u16; 64], k: u16)
+fn step_row(run: u16, row: &[u8], cuts: &[u8; 64], state: &mut [u16; 64], k: u16)
     requires { ⌜ (length (now row) ≤ 64) × (length (now state) ≡ 64) × (k < 4096) ⌝ }
     requires { ⌜ AtMost (length (now row)) 4096 (now state) ⌝ }
     ensures { λ _. ⌜
-        Stepped (now (row .entry)) (now (cuts .entry)) (now (state .entry)) k
+        Stepped run (now (row .entry)) (now (cuts .entry)) (now (state .entry)) k
         (length (now (row .entry))) (now (state .exit)) ⌝ }
 {
     let mut i = 0;
     while i < row.len() {
-        state[i] = next_state(state[i], row[i], cuts[i], k);
+        state[i] = next_state(run, state[i], row[i], cuts[i], k);
         i += 1;
     }
 }
 
 // The same for the n columns from x on, at row y of the picture.
 fn sweep_row(
+    run: u16,
     s: &[u8],
     w: usize,
     h: usize,
@@ -117,24 +117,24 @@ fn sweep_row(
     requires { ⌜ (length (now s) ≡ w * h) × (w ≤ 4096) × (h ≤ 4096) × (x + n ≤ w) × (y < h) ⌝ }
     requires { ⌜ (n ≤ 64) × (length (now state) ≡ 64) × (k < 4096) × AtMost n 4096 (now state) ⌝ }
     ensures { λ _. ⌜
-        Stepped (partOf (y * w + x) n (now (s .entry))) (now (cuts .entry)) (now (state .entry)) k n
-        (now (state .exit)) ⌝ }
+        Stepped run (partOf (y * w + x) n (now (s .entry))) (now (cuts .entry))
+        (now (state .entry)) k n (now (state .exit)) ⌝ }
 {
     let a = y * w + x;
-    step_row(&s[a..a + n], cuts, state, k);
+    step_row(run, &s[a..a + n], cuts, state, k);
 }
 
 // Whether each of the n columns has its run; looked at after every eighth row only.
-fn all_found(state: &[u16; 64], n: usize, k: usize) -> bool
+fn all_found(run: u16, state: &[u16; 64], n: usize, k: usize) -> bool
     requires { ⌜ n ≤ 64 ⌝ }
-    ensures { λ r. ⌜ (r ≡ true → (i : ℕ) → i < n → 4 ≤ getD (now (state .entry)) i 0) ⌝ }
+    ensures { λ r. ⌜ (r ≡ true → (i : ℕ) → i < n → run ≤ getD (now (state .entry)) i 0) ⌝ }
 {
     if k % 8 != 0 {
         return false;
     }
     let mut i = 0;
     while i < n {
-        if state[i] < 4 {
+        if state[i] < run {
             return false;
         }
         i += 1;
@@ -143,13 +143,13 @@ fn all_found(state: &[u16; 64], n: usize, k: usize) -> bool
 }
 
 // Whether none of the n columns has a run.
-pub fn none_found(state: &[u16; 64], n: usize) -> bool
+pub fn none_found(run: u16, state: &[u16; 64], n: usize) -> bool
     requires { ⌜ n ≤ 64 ⌝ }
-    ensures { λ r. ⌜ (r ≡ true → (i : ℕ) → i < n → getD (now (state .entry)) i 0 < 4) ⌝ }
+    ensures { λ r. ⌜ (r ≡ true → (i : ℕ) → i < n → getD (now (state .entry)) i 0 < run) ⌝ }
 {
     let mut i = 0;
     while i < n {
-        if 4 <= state[i] {
+        if run <= state[i] {
             return false;
         }
         i += 1;
@@ -163,6 +163,7 @@ pub fn scan_columns(
     levels: &[u8],
     labels: &[u32],
     want: u32,
+    run: u16,
     w: usize,
     h: usize,
     x: usize,
@@ -173,12 +174,13 @@ pub fn scan_columns(
     state: &mut [u16; 64],
 )
     requires { ⌜ Grids (now levels) (now labels) w h ⌝ }
-    requires { ⌜ Columns (now s) w h x n y0 rows × (0 < n) × (n ≤ 64) ⌝ }
+    requires { ⌜ Columns (now s) w h x n y0 rows × (0 < n) × (n ≤ 64) × (0 < run) ⌝ }
     requires { ⌜
-        Swept (memberAt want w (now s) (now levels) (now labels)) y0 rows x n back 0 (now state) ⌝ }
+        Swept run (memberAt want w (now s) (now levels) (now labels)) y0 rows x n back 0
+        (now state) ⌝ }
     ensures { λ _. ⌜
-        Swept (memberAt want w (now (s .entry)) (now (levels .entry)) (now (labels .entry))) y0 rows
-        x n back rows (now (state .exit)) ⌝ }
+        Swept run (memberAt want w (now (s .entry)) (now (levels .entry)) (now (labels .entry))) y0
+        rows x n back rows (now (state .exit)) ⌝ }
 {
     let mut cuts = [0u8; 64];
     let mut y = place(back, y0, rows, 0);
@@ -188,9 +190,9 @@ pub fn scan_columns(
         let cy = y / 8;
         y = place(back, y0, rows, k);
         refill(levels, labels, want, w, h, x, n, cy, y, &mut cuts);
-        sweep_row(s, w, h, x, n, y, &cuts, state, k as u16);
+        sweep_row(run, s, w, h, x, n, y, &cuts, state, k as u16);
         k += 1;
-        if all_found(state, n, k) {
+        if all_found(run, state, n, k) {
             return;
         }
     }

@@ -6,7 +6,7 @@ use pgm::File;
 ghost use mathlib.Core.Path.{_≡_};
 ghost use Prim.Native.Nat.{_≤_};
 ghost use lib.ListN.{length};
-ghost use Rattle.packed.specs.Rooms.{HasPlaces};
+ghost use Rattle.word_bytes.specs.Inner.{HasPlaces};
 ghost use Rattle.tray.specs.Input.{FileAt};
 ghost use Rattle.overlay.specs.Shown.{Shown};
 

@@ -13,8 +13,8 @@ use lib.ListN.{length, take, drop, length-append, length-take, length-drop}
 use lib.Seq.{drop-append-le, take-append-le}
 use borrow.Author.Tests.{leb-true, le-leb}
 use Rattle.laws.proofs.Bools.{and-left, and-right}
-use Rattle.checks.specs.Picture.{isSide}
-use Rattle.checks.proofs.Checked.{check-step}
+use Rattle.picture_checks.specs.Picture.{isSide}
+use Rattle.picture_checks.proofs.Checked.{check-step}
 use Rattle.pgm.specs.Form.{hasForm, fileWidth, fileHeight, fileMaximum, fileStart}
 use Rattle.pgm.specs.Doors.{checkHeader, checkPixels, checkFile, found, fileAnswer, filePixels}
 use Rattle.pgm.specs.declared.File.the-variants.{Picture}

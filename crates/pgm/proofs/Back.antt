@@ -14,29 +14,7 @@ use lib.Dec.{eqb, leb}
 use lib.ListN.{length}
 use borrow.Author.Tests.{leb-true, ne-eqb}
 use Rattle.laws.proofs.Bools.{and-left}
-use Rattle.pgm.specs.Form.{
-  isWhite,
-  isDigit,
-  bare,
-  begins,
-  pastWhite,
-  pastDigits,
-  numberAfter,
-  isItem,
-  itemNumber,
-  pastItem,
-  placeAfter,
-  hasLetters,
-  hasForm,
-  fromWidth,
-  fromHeight,
-  fromMaximum,
-  fromLast,
-  fileWidth,
-  fileHeight,
-  fileMaximum,
-  fileStart,
-}
+use Rattle.pgm.specs.Form.{isWhite, isDigit, bare, begins, pastWhite, pastDigits, numberAfter, isItem, itemNumber, pastItem, pastFirst, hasLetters, hasForm, fromHeight, fromMaximum, fromLast, fileWidth, fileHeight, fileMaximum, fileStart}
 use Rattle.text.specs.Text.{spelt, decimal}
 use Rattle.pgm.specs.Doors.{headerText, fileText}
 use Rattle.pgm.proofs.Chain.{digit-not-white}
@@ -182,4 +160,4 @@ module _ (w h : ℕ) (s : List ℕ) where
 
   pub file-start : fileStart file ≡ suc end
   unfolding fileStart
-  file-start = ap placeAfter last-from ∙ unfold placeAfter bare in refl
+  file-start = ap pastFirst last-from ∙ unfold pastFirst bare in refl

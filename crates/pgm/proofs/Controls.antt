@@ -1,26 +1,7 @@
 -- Closed cases of the reader, whose answers come from pgm(5) and pbm(5) by hand and from the reader in Python. Assumes nothing.
 use mathlib.Core.Path.{_≡_, refl}
 use mathlib.Core.List.{[], _∷_}
-use Rattle.pgm.specs.Form.{
-  isWhite,
-  isDigit,
-  isLineEnd,
-  bare,
-  begins,
-  pastWhite,
-  pastDigits,
-  numberAfter,
-  isItem,
-  itemNumber,
-  pastItem,
-  placeAfter,
-  hasLetters,
-  hasForm,
-  fileWidth,
-  fileHeight,
-  fileMaximum,
-  fileStart,
-}
+use Rattle.pgm.specs.Form.{isWhite, isDigit, isLineEnd, bare, begins, pastWhite, pastDigits, numberAfter, isItem, itemNumber, pastItem, pastFirst, hasLetters, hasForm, fileWidth, fileHeight, fileMaximum, fileStart}
 use Rattle.pgm.specs.Doors.{checkHeader, checkPixels, checkFile, found, fileAnswer}
 use Rattle.pgm.specs.declared.File.the-variants.{Picture, Refused}
 
@@ -59,7 +40,7 @@ pub record Cases : Type 0 where
 
 pub cases : Cases
 unfolding fileAnswer found checkFile checkHeader checkPixels hasForm hasLetters fileWidth fileHeight fileMaximum
-    fileStart isItem itemNumber pastItem placeAfter begins pastWhite pastDigits numberAfter bare isWhite isDigit isLineEnd
+    fileStart isItem itemNumber pastItem pastFirst begins pastWhite pastDigits numberAfter bare isWhite isDigit isLineEnd
 cases = record {
   plain = refl;
   white = refl;

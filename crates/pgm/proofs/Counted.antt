@@ -16,20 +16,10 @@ use lib.ListN.{length}
 use borrow.Author.Tests.{lt-leb}
 use Rattle.laws.proofs.Bools.{which, clash}
 use Rattle.pgm.specs.Form.{isLineEnd, hasForm, fileStart}
-use Rattle.pgm.specs.Steps.{begun, isEnded, isWhole, nextStage, inComment, movedTo, oneMore, cutShort, stepped, stepsOver}
+use Rattle.pgm.specs.Steps.{isEnded, isWhole, nextStage, inComment, movedTo, oneMore, cutShort, stepped, stepsOver}
 use Rattle.pgm.specs.declared.steps.Reading.{Reading}
 use Rattle.pgm.specs.declared.steps.Stage.{Stage}
-use Rattle.pgm.specs.declared.steps.Stage.the-variants.{
-  Letters,
-  BeforeWidth,
-  Width,
-  BeforeHeight,
-  Height,
-  BeforeMaximum,
-  Maximum,
-  Whole,
-  Wrong,
-}
+use Rattle.pgm.specs.declared.steps.Stage.the-variants.{Letters, BeforeWidth, Width, BeforeHeight, Height, BeforeMaximum, Maximum, Whole, Wrong}
 use Rattle.pgm.proofs.Beside.{Outcome, whole, refused, steps-stay}
 
 -- ---- what they tell

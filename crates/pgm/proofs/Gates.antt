@@ -1,7 +1,7 @@
 -- The answer of a file: refused-is; behind checks that are a gate, found-off where they refuse, found-on where they pass. Assumes nothing.
 use mathlib.Core.Path.{_≡_, refl, sym, ap, _∙_}
 use Prim.Native.Nat.{ℕ, zero, suc}
-use Rattle.checks.proofs.Checked.{Gate}
+use Rattle.picture_checks.proofs.Checked.{Gate}
 use Rattle.pgm.specs.Doors.{found}
 use Rattle.pgm.specs.declared.File.the-variants.{Refused}
 

@@ -17,8 +17,8 @@ use lib.Dec.{eqb, leb, lit<}
 use lib.ListN.{length, drop}
 use borrow.Author.Tests.{leb-true, le-leb, lt-leb, ne-eqb}
 use Rattle.laws.proofs.Bools.{le-or-lt, and-right, clash}
-use Rattle.checks.specs.Picture.{isSide}
-use Rattle.checks.proofs.Checked.{Gate, gate-open, gate-check, check-step, side-in}
+use Rattle.picture_checks.specs.Picture.{isSide}
+use Rattle.picture_checks.proofs.Checked.{Gate, gate-open, gate-check, check-step, side-in}
 use Rattle.pgm.specs.Form.{hasLetters, hasForm, fileWidth, fileHeight, fileMaximum, fileStart}
 use Rattle.pgm.specs.Doors.{checkHeader, checkPixels, checkFile, found, fileAnswer}
 use Rattle.pgm.specs.Steps.{begun, isWhole, stepsOver}

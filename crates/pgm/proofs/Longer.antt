@@ -16,17 +16,7 @@ use Rattle.laws.proofs.Bools.{le-or-lt, clash, and-left}
 use Rattle.pgm.specs.Form.{isLineEnd, bare, hasLetters, hasForm, fromWidth, fileWidth, fileHeight, fileMaximum, fileStart}
 use Rattle.pgm.specs.Steps.{nextStage}
 use Rattle.pgm.specs.declared.steps.Stage.{Stage}
-use Rattle.pgm.specs.declared.steps.Stage.the-variants.{
-  Letters,
-  BeforeWidth,
-  Width,
-  BeforeHeight,
-  Height,
-  BeforeMaximum,
-  Maximum,
-  Whole,
-  Wrong,
-}
+use Rattle.pgm.specs.declared.steps.Stage.the-variants.{Letters, BeforeWidth, Width, BeforeHeight, Height, BeforeMaximum, Maximum, Whole, Wrong}
 use Rattle.pgm.proofs.Walk.{Form, noForm, form, arrive, walk}
 use Rattle.pgm.proofs.Chain.{walk-chain}
 use Rattle.pgm.proofs.Beside.{headerForm, chain-header}

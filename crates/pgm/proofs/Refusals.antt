@@ -8,7 +8,7 @@ use native.Mathlib.Omega.{arith}
 use lib.Dec.{eqb}
 use lib.ListN.{length, getD, List·getD-eq-default}
 use borrow.Author.Tests.{le-leb, lt-leb, eq-eqb, ne-eqb}
-use Rattle.checks.specs.Picture.{isSide}
+use Rattle.picture_checks.specs.Picture.{isSide}
 use Rattle.pgm.specs.Form.{hasLetters}
 use Rattle.pgm.specs.Doors.{found}
 use Rattle.pgm.specs.Steps.{isWhole}

@@ -1,17 +1,19 @@
 -- A written picture reads back, a file is rewritten once, bytes after the pixels do not matter: the claims reads-back, rewritten-once and
--- pixels-last. Assumes nothing.
+-- pixels-last.
+--     reads-back, rewritten-once, pixels-last
+-- Assumes nothing.
 use mathlib.Core.Path.{_≡_, refl, ap, _∙_}
 use mathlib.Core.Bool.{true}
 use mathlib.Core.List.{List, _++_}
-use Prim.Native.Nat.{ℕ, suc, _+_, _*_, _≤_, _<_}
+use Prim.Native.Nat.{ℕ, suc, _+_, _*_}
 use native.Mathlib.Nat.{le-refl}
 use native.Mathlib.Omega.{arith}
 use lib.Dec.{eqb, lit<, lit≤}
 use lib.ListN.{length, take, drop}
 use lib.Seq.{take-all, drop-at}
 use borrow.Author.Tests.{le-leb, eq-eqb, eqb-true}
-use Rattle.checks.specs.Picture.{isSide}
-use Rattle.checks.proofs.Checked.{check-step, side-in}
+use Rattle.picture_checks.specs.Picture.{isSide}
+use Rattle.picture_checks.proofs.Checked.{check-step, side-in}
 use Rattle.pgm.specs.Form.{hasForm, fileWidth, fileHeight, fileMaximum, fileStart}
 use Rattle.text.specs.Text.{decimal}
 use Rattle.pgm.specs.Doors.{filePixels, headerText, fileText, checkWrite, fileAfter, rewritten}

@@ -6,7 +6,7 @@
 --   written, unwritten                     its answers
 -- Assumes nothing.
 use mathlib.Core.Path.{_≡_, refl, sym, ap, _∙_, subst}
-use mathlib.Core.List.{List, [], _∷_, _++_}
+use mathlib.Core.List.{List, [], _∷_}
 use Prim.Native.Nat.{ℕ, zero, suc, _+_, _*_, _≤_, _<_}
 use native.Mathlib.Nat.{zero-add}
 use native.Mathlib.Omega.{arith}
@@ -16,8 +16,8 @@ use borrow.Author.Tests.{leb-true, le-leb, lt-leb}
 use Rattle.laws.specs.Check.{orRefuse}
 use Rattle.laws.specs.Lent.{Stored}
 use Rattle.laws.proofs.Stores.{stored-append, stored-laid}
-use Rattle.checks.specs.Picture.{isSide, checkPicture}
-use Rattle.checks.proofs.Checked.{check-on, check-off, check-step}
+use Rattle.picture_checks.specs.Picture.{isSide, checkPicture}
+use Rattle.picture_checks.proofs.Checked.{check-on, check-off, check-step}
 use Rattle.text.specs.Text.{decimal}
 use Rattle.pgm.specs.Doors.{headerText, fileText, checkWrite, wrote, fileAfter}
 use Rattle.pgm.specs.declared.Written.the-variants.{Bytes, Refused}

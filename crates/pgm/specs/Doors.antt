@@ -7,7 +7,7 @@ use lib.Dec.{eqb, leb}
 use lib.ListN.{length, take, drop}
 use Rattle.laws.specs.Check.{orRefuse}
 use Rattle.laws.specs.Said.{Said, refuse, give}
-use Rattle.checks.specs.Picture.{isSide, checkPicture}
+use Rattle.picture_checks.specs.Picture.{isSide, checkPicture}
 use Rattle.text.specs.Text.{decimal}
 use Rattle.pgm.specs.Form.{hasForm, fileWidth, fileHeight, fileMaximum, fileStart}
 use Rattle.pgm.specs.declared.File.{File}

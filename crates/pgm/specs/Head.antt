@@ -2,7 +2,7 @@
 use Prim.Native.Nat.{ℕ, _+_, _*_, _≤_}
 use lib.Dec.{eqb, leb}
 use Rattle.laws.specs.Check.{orRefuse}
-use Rattle.checks.specs.Picture.{isSide}
+use Rattle.picture_checks.specs.Picture.{isSide}
 use Rattle.pgm.specs.Steps.{isWhole}
 use Rattle.pgm.specs.Doors.{found}
 use Rattle.pgm.specs.declared.File.{File}

@@ -2,7 +2,7 @@
 use crate::steps::Reading;
 use crate::steps::Stage;
 ghost use mathlib.Core.Path.{_≡_};
-ghost use Rattle.checks.specs.Picture.{isSide};
+ghost use Rattle.picture_checks.specs.Picture.{isSide};
 ghost use Rattle.pgm.specs.Steps.{isWhole};
 ghost use Rattle.pgm.specs.Head.{checkHead};
 

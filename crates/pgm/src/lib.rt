@@ -74,10 +74,10 @@ pub fn read(s: &[u8]) -> File
 // The writer: the file of a picture into the first places of out, the rest untouched. Refusals in
 // order: 1, 2, 3; then nothing is touched.
 pub fn write(pixels: &[u8], w: usize, h: usize, out: &mut [u8]) -> Written
-    ensures { λ r. ⌜
+    ensures answer { λ r. ⌜
         r ≡ wrote (checkWrite w h (now (pixels .entry)) (length (now (out .entry))))
         (length (fileText w h (now (pixels .entry)))) ⌝ }
-    ensures { λ _. ⌜
+    ensures out { λ _. ⌜
         now (out .exit) ≡ fileAfter
         (checkWrite w h (now (pixels .entry)) (length (now (out .entry))))
         (fileText w h (now (pixels .entry))) (now (out .entry)) ⌝ }

@@ -12,8 +12,8 @@ ghost use Rattle.pgm.specs.Doors.{headerText, fileText, checkWrite};
 // How many digits a number below 10,000 has.
 fn digits(n: usize) -> usize
     requires { ⌜ n < 10000 ⌝ }
-    ensures { λ r. ⌜ r ≡ length (decimal n) ⌝ }
-    ensures { λ r. ⌜ r ≤ 4 ⌝ }
+    ensures answer { λ r. ⌜ r ≡ length (decimal n) ⌝ }
+    ensures most { λ r. ⌜ r ≤ 4 ⌝ }
 {
     if n < 10 {
         return 1;
@@ -30,8 +30,8 @@ fn digits(n: usize) -> usize
 // How many bytes the header of a picture has.
 fn header_len(w: usize, h: usize) -> usize
     requires { ⌜ (w ≤ 4096) × (h ≤ 4096) ⌝ }
-    ensures { λ r. ⌜ r ≡ length (headerText w h) ⌝ }
-    ensures { λ r. ⌜ r ≤ 17 ⌝ }
+    ensures answer { λ r. ⌜ r ≡ length (headerText w h) ⌝ }
+    ensures most { λ r. ⌜ r ≤ 17 ⌝ }
 {
     9 + digits(w) + digits(h)
 }
@@ -41,7 +41,7 @@ pub(crate) fn check(pixels: &[u8], w: usize, h: usize, room: usize) -> u32
     ensures { λ r. ⌜ r ≡ checkWrite w h (now (pixels .entry)) room ⌝ }
 {
     let bytes = pixels.len();
-    let n = checks::check_picture(w, h, bytes);
+    let n = picture_checks::check_picture(w, h, bytes);
     if n != 0 {
         return n;
     }

@@ -5,16 +5,7 @@ use crate::bytes::push;
 ghost use mathlib.Core.Path.{_≡_};
 ghost use Prim.Native.Nat.{_<_};
 ghost use lib.ListN.{drop};
-ghost use Rattle.pgm.specs.Steps.{
-  begun,
-  isEnded,
-  inComment,
-  movedTo,
-  oneMore,
-  cutShort,
-  stepped,
-  stepsOver,
-};
+ghost use Rattle.pgm.specs.Steps.{begun, isEnded, inComment, movedTo, oneMore, cutShort, stepped, stepsOver};
 
 // How far the header has been read.
 pub enum Stage {

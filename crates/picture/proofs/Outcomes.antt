@@ -1,21 +1,24 @@
 -- The outcome of the door put together: checks in order, the level grid for the marks, marks for the labels, labels for the regions.
+--     levelled-of, mapped-of
+--     the regions of the labels: labels-tab, labels-most, many-most, labelled-by
+--     the checks: check-few, answer-refused
+--     what labelling leaves: mapped-at, mapped-full, level-cells-few
 -- Assumes nothing.
 use mathlib.Core.Bool.{Bool, false, true}
 use mathlib.Core.List.{List, _++_}
 use mathlib.Core.Path.{_∙_, _≡_, ap, refl, sym}
-use Prim.Native.Nat.{_*_, _+_, _-_, _<_, _≤_, suc, zero, ℕ}
+use Prim.Native.Nat.{_*_, _<_, _≤_, suc, zero, ℕ}
 use native.Mathlib.Decide.{decLt}
 use native.Mathlib.Nat.{mul-comm, mul-le-mul}
 use native.Mathlib.Omega.{arith}
 use lib.Dec.{eqb, leb}
 use lib.Ieee.Order.{kept}
 use lib.ListN.{List·getD-eq-default, drop, getD, length, length-take, replicate, take}
-use lib.Seq.{drop-drop, getD-take, length-take-le}
-use Rattle.checks.specs.Picture.{isSide}
+use lib.Seq.{getD-take, length-take-le}
+use Rattle.picture_checks.specs.Picture.{isSide, Picture}
 use Rattle.labels.proofs.InkCells.{marks-inked}
 use Rattle.labels.proofs.Labellings.{label-most}
-use Rattle.labels.specs.Labelling.{Answers, cleared, given}
-use Rattle.labels.specs.Marks.{Levelled, markAt}
+use Rattle.labels.specs.Inner.{Answers, cleared, given, Levelled, cellMarkAt}
 use Rattle.laws.proofs.Counts.{count-most}
 use Rattle.laws.proofs.Folds.{drop-written, getD-written, is-tab}
 use Rattle.laws.proofs.Past.{past-more, past-then}
@@ -26,14 +29,14 @@ use Rattle.laws.specs.Fold.{tab, written}
 use Rattle.laws.specs.Lent.{UntouchedPast, zeros}
 use Rattle.laws.specs.Plane.{Plane, drawn, plane, rowwise}
 use Rattle.levels.specs.Level.{cells, level}
-use Rattle.levels.specs.Steps.{Picture, more}
-use Rattle.picture.specs.Inner.{LabelledBy, Mapped, full, mapped}
-use Rattle.regions.proofs.Cells.{grid}
-use Rattle.regions.proofs.Groups.{cell-of}
-use Rattle.regions.proofs.Pictures.{ink-inside}
-use Rattle.regions.specs.Cells.{cellLabel, cells8, cellsOf, groupsOf, inkCell, labelAt}
-use Rattle.regions.specs.Door.{answerBy, checkGrids, refusedBy}
-use Rattle.regions.specs.Labels.{first?, label, near}
+use Rattle.levels.specs.Inner.{more}
+use Rattle.picture.specs.Inner.{LabelledBy, LabelledAfter, full, mapped}
+use Rattle.labels.proofs.Near.{grid}
+use Rattle.labels.proofs.MovedGroups.{cell-of}
+use Rattle.labels.proofs.Pictures.{ink-inside}
+use Rattle.labels.specs.Cells.{cellLabel, cells8, cellsOf, groupsOf, inkCell, labelAt}
+use Rattle.picture.specs.Door.{answerBy, checkGrids, refusedBy}
+use Rattle.labels.specs.Labels.{first?, label, near}
 use Rattle.labels.specs.declared.groups.Next.{Next}
 use Rattle.regions.specs.declared.answer.Kept.{Kept}
 use Rattle.labels.specs.declared.groups.Next.the-variants.{At, Full}
@@ -62,8 +65,8 @@ pub mapped-of : (s : List ℕ) (w h cw ch : ℕ) (labels stack worked marked wor
     → UntouchedPast (cells w * cells h) labels worked → UntouchedPast (cells w * cells h) stack worked-stack
     → cells w * cells h ≤ cellsOf w h
     → length worked ≡ length labels → length worked-stack ≡ length stack
-    → marked ≡ drawn (cells8 w) (cells8 h) (markAt (plane w s) w h) worked → length marked ≡ length worked
-    → Answers cw (ch * cw) marked worked-stack labels′ stack′ r → Mapped s w h labels stack labels′ stack′ r
+    → marked ≡ drawn (cells8 w) (cells8 h) (cellMarkAt (plane w s) w h) worked → length marked ≡ length worked
+    → Answers cw (ch * cw) marked worked-stack labels′ stack′ r → LabelledAfter s w h labels stack labels′ stack′ r
 unfolding cellLabel groupsOf
 mapped-of s w h cw ch labels stack worked marked worked-stack labels′ stack′ ew eh past past-stack more same same-stack is same-marked
     answers =
@@ -78,12 +81,12 @@ mapped-of s w h cw ch labels stack worked marked worked-stack labels′ stack′
     past-marked : drop (cellsOf w h) marked ≡ drop (cellsOf w h) labels
     past-marked =
         ap (drop (cellsOf w h)) is
-        ∙ ap (λ (k : ℕ). drop k (drawn (cells8 w) (cells8 h) (markAt (plane w s) w h) worked)) (mul-comm (cells8 h) (cells8 w))
-        ∙ drop-written (cells8 w * cells8 h) (rowwise (cells8 w) (markAt (plane w s) w h)) worked
+        ∙ ap (λ (k : ℕ). drop k (drawn (cells8 w) (cells8 h) (cellMarkAt (plane w s) w h) worked)) (mul-comm (cells8 h) (cells8 w))
+        ∙ drop-written (cells8 w * cells8 h) (rowwise (cells8 w) (cellMarkAt (plane w s) w h)) worked
         ∙ ap (λ (k : ℕ). drop k worked) (mul-comm (cells8 w) (cells8 h))
         ∙ past-more (cellsOf w h) more past .past
 
-    go : {r : Next} → Answers (cells8 w) (cellsOf w h) marked worked-stack labels′ stack′ r → Mapped s w h labels stack labels′ stack′ r
+    go : {r : Next} → Answers (cells8 w) (cellsOf w h) marked worked-stack labels′ stack′ r → LabelledAfter s w h labels stack labels′ stack′ r
     go (given f kept) =
         let q = f (inkCell (plane w s) w h) (marks-inked (plane w s) w h marked worked is) in
         mapped
@@ -153,13 +156,13 @@ answer-refused zero k some = absurd (some refl)
 answer-refused (suc n) k some = refl
 
 -- ---- what labelling leaves
-pub mapped-at : {s labels stack labels′ stack′ : List ℕ} {w h v : ℕ} {r : Next} → Mapped s w h labels stack labels′ stack′ r → r ≡ At v
+pub mapped-at : {s labels stack labels′ stack′ : List ℕ} {w h v : ℕ} {r : Next} → LabelledAfter s w h labels stack labels′ stack′ r → r ≡ At v
     → (labels′ ≡ drawn (cells8 w) (cells8 h) (labelAt (plane w s) w h) labels) × (v ≡ groupsOf (plane w s) w h)
     × UntouchedPast (cellsOf w h) stack stack′
 mapped-at {v = v} (mapped {v = u} a b c) e = let z : u ≡ v = cc in (a, sym z ∙ b, c)
 mapped-at (full a b c) e = absurd (let z : _≡_ {A = ℕ} 0 1 = cc in omega arith)
 
-pub mapped-full : {s labels stack labels′ stack′ : List ℕ} {w h : ℕ} {r : Next} → Mapped s w h labels stack labels′ stack′ r → r ≡ Full
+pub mapped-full : {s labels stack labels′ stack′ : List ℕ} {w h : ℕ} {r : Next} → LabelledAfter s w h labels stack labels′ stack′ r → r ≡ Full
     → (length stack < cellsOf w h) × (labels′ ≡ zeros labels) × (stack′ ≡ zeros stack)
 mapped-full (mapped a b c) e = absurd (let z : _≡_ {A = ℕ} 0 1 = cc in omega arith)
 mapped-full (full a b c) e = (a, b, c)

@@ -9,10 +9,10 @@ use Rattle.labels.specs.declared.groups.Next.the-variants.{At, Full}
 use Rattle.laws.specs.Lent.{UntouchedPast, zeros}
 use Rattle.laws.specs.Plane.{plane, drawn}
 use Rattle.levels.specs.Level.{cells}
-use Rattle.regions.specs.Cells.{cells8, cellsOf, cellLabel, labelAt, groupsOf}
+use Rattle.labels.specs.Cells.{cells8, cellsOf, cellLabel, labelAt, groupsOf}
 
 -- What the checks of the lent lists tell where none refuses: the places that they have.
-pub record Places (w h grid labels stack : ℕ) : Type 0 where
+pub record ListRooms (w h grid labels stack : ℕ) : Type 0 where
   pub grids : cells w * cells h ≤ grid
   pub label : cellsOf w h ≤ labels
   pub room : cellsOf w h ≤ stack
@@ -24,7 +24,7 @@ pub record LabelledBy (s : List ℕ) (w h : ℕ) (labels : List ℕ) (v : ℕ) :
 
 -- The lists after labelling: the labels and their number; or the stack was full, which happens only where it has fewer places than there
 -- are region cells, and both lists are all zero.
-pub data Mapped (s : List ℕ) (w h : ℕ) (labels stack labels′ stack′ : List ℕ) : Next → Type 0 where
+pub data LabelledAfter (s : List ℕ) (w h : ℕ) (labels stack labels′ stack′ : List ℕ) : Next → Type 0 where
   mapped : {v : ℕ} → labels′ ≡ drawn (cells8 w) (cells8 h) (labelAt (plane w s) w h) labels → v ≡ groupsOf (plane w s) w h
-      → UntouchedPast (cellsOf w h) stack stack′ → Mapped s w h labels stack labels′ stack′ (At v)
-  full : length stack < cellsOf w h → labels′ ≡ zeros labels → stack′ ≡ zeros stack → Mapped s w h labels stack labels′ stack′ Full
+      → UntouchedPast (cellsOf w h) stack stack′ → LabelledAfter s w h labels stack labels′ stack′ (At v)
+  full : length stack < cellsOf w h → labels′ ≡ zeros labels → stack′ ≡ zeros stack → LabelledAfter s w h labels stack labels′ stack′ Full

@@ -4,37 +4,32 @@ ghost use Prim.Native.Nat.{_*_, _≤_};
 ghost use lib.ListN.{length};
 ghost use Rattle.laws.specs.Plane.{plane, drawn};
 ghost use Rattle.levels.specs.Level.{cells, level};
-ghost use Rattle.levels.specs.Steps.{Picture, Rooms};
-ghost use Rattle.checks.specs.Picture.{Sides};
-ghost use Rattle.regions.specs.Cells.{cells8, cellsOf};
-ghost use Rattle.regions.specs.Door.{
-  checkGrids,
-  keptRegions,
-  refusedBy,
-  pictureAnswer,
-  levelsAfter,
-  labelsAfter,
-  StackAfter,
-};
+ghost use Rattle.picture_checks.specs.Picture.{Picture, Sides};
+ghost use Rattle.levels.specs.Inner.{LevelRooms};
+ghost use Rattle.labels.specs.Cells.{cellsOf};
+ghost use Rattle.picture.specs.Door.{checkGrids, refusedBy, pictureAnswer, levelsAfter, labelsAfter, StackAfter};
+ghost use Rattle.regions.specs.Regions.{keptRegions};
 ghost use Rattle.laws.specs.Lent.{UntouchedPast};
-ghost use Rattle.picture.specs.Inner.{Places, Mapped, LabelledBy};
-use checks::check_picture;
+ghost use Rattle.picture.specs.Inner.{ListRooms, LabelledAfter, LabelledBy};
+use crate::answer::PictureAnswer;
 use labels::cells::mark_cells;
 use labels::cells::region_cells;
 use labels::groups::Next;
 use labels::groups::label_all;
 use levels::cells::cells_of;
 use levels::level_grid;
+use picture_checks::check_picture;
 use regions::answer::Kept;
-use regions::answer::PictureAnswer;
 use regions::answer::Region;
 use regions::top::regions;
+
+pub mod answer;
 
 // The checks of the lent lists, by how many places they have, where those of the picture passed.
 fn check_lists(w: usize, h: usize, bytes: usize, grid: usize, labels: usize, stack: usize) -> u32
     requires { ⌜ Sides w h bytes ⌝ }
-    ensures { λ r. ⌜ r ≡ checkGrids w h bytes grid labels stack ⌝ }
-    ensures { λ r. ⌜ (r ≡ 0 → Places w h grid labels stack) ⌝ }
+    ensures answer { λ r. ⌜ r ≡ checkGrids w h bytes grid labels stack ⌝ }
+    ensures passed { λ r. ⌜ (r ≡ 0 → ListRooms w h grid labels stack) ⌝ }
 {
     if grid < cells_of(w) * cells_of(h) {
         return 3;
@@ -51,8 +46,8 @@ fn check_lists(w: usize, h: usize, bytes: usize, grid: usize, labels: usize, sta
 
 // All checks in order.
 pub fn check(w: usize, h: usize, bytes: usize, grid: usize, labels: usize, stack: usize) -> u32
-    ensures { λ r. ⌜ r ≡ checkGrids w h bytes grid labels stack ⌝ }
-    ensures { λ r. ⌜ (r ≡ 0 → Sides w h bytes × Places w h grid labels stack) ⌝ }
+    ensures answer { λ r. ⌜ r ≡ checkGrids w h bytes grid labels stack ⌝ }
+    ensures passed { λ r. ⌜ (r ≡ 0 → Sides w h bytes × ListRooms w h grid labels stack) ⌝ }
 {
     let no = check_picture(w, h, bytes);
     if no != 0 {
@@ -72,13 +67,13 @@ fn ink_map(
     stack: &mut [u32],
 ) -> Next
     requires { ⌜ Picture (now s) w h ⌝ }
-    requires { ⌜ Rooms (cells w * cells h) (now grid) (now labels) (now stack) ⌝ }
+    requires { ⌜ LevelRooms (cells w * cells h) (now grid) (now labels) (now stack) ⌝ }
     requires { ⌜ cellsOf w h ≤ length (now labels) ⌝ }
-    ensures { λ _. ⌜
+    ensures grid { λ _. ⌜
         now (grid .exit)
         ≡ drawn (cells w) (cells h) (level (plane w (now (s .entry))) w h) (now (grid .entry)) ⌝ }
-    ensures { λ r. ⌜
-        Mapped (now (s .entry)) w h (now (labels .entry)) (now (stack .entry))
+    ensures labels { λ r. ⌜
+        LabelledAfter (now (s .entry)) w h (now (labels .entry)) (now (stack .entry))
         (now (labels .exit)) (now (stack .exit)) r ⌝ }
 {
     level_grid(s, w, h, grid, labels, stack);
@@ -91,8 +86,8 @@ fn count_regions(s: &[u8], w: usize, h: usize, labels: &[u32], stack: &mut [u32]
     requires { ⌜ Picture (now s) w h ⌝ }
     requires { ⌜ (cellsOf w h ≤ length (now labels)) × (cellsOf w h ≤ length (now stack)) ⌝ }
     requires { ⌜ LabelledBy (now s) w h (now labels) v ⌝ }
-    ensures { λ r. ⌜ r ≡ keptRegions (plane w (now (s .entry))) w h ⌝ }
-    ensures { λ _. ⌜ UntouchedPast (cellsOf w h) (now (stack .entry)) (now (stack .exit)) ⌝ }
+    ensures answer { λ r. ⌜ r ≡ keptRegions (plane w (now (s .entry))) w h ⌝ }
+    ensures stack_past { λ _. ⌜ UntouchedPast (cellsOf w h) (now (stack .entry)) (now (stack .exit)) ⌝ }
 {
     let cw = region_cells(w);
     let ch = region_cells(h);

@@ -13,13 +13,13 @@ use native.Mathlib.Nat.{mul-comm, mul-le-mul-right}
 use lib.Dec.{eqb, leb, lit<}
 use lib.ListN.{length}
 use borrow.Author.Tests.{eq-eqb, ne-eqb}
-use Rattle.checks.proofs.Checked.{Gate, gate-check, gate-open}
-use Rattle.checks.specs.Picture.{Sides, checkPicture, isSide}
+use Rattle.picture_checks.proofs.Checked.{Gate, gate-check, gate-open}
+use Rattle.picture_checks.specs.Picture.{Sides, checkPicture, isSide}
 use Rattle.laws.specs.Check.{orRefuse}
 use Rattle.lcr_core.proofs.DoorLaws.{refuse-yes}
 use Rattle.lcr_core.specs.Version.{IsVersion, isVersion}
 use Rattle.proof_ring.specs.Doors.{Planned, answerOf, checkDrawing, checkPlan, leastSide}
-use Rattle.proof_ring.specs.Painting.{Room}
+use Rattle.proof_ring.specs.Inner.{Room}
 use Rattle.proof_ring.specs.declared.Answer.the-variants.{Done, Refused}
 use Rattle.proof_ring.specs.declared.paint.Plan.{Plan}
 

@@ -11,10 +11,11 @@ use native.Mathlib.Omega.{arith}
 use lib.Dec.{eqb, leb}
 use lib.Ieee.{Float, binary32, ofBits}
 use lib.ListN.{getD, length}
-use borrow.Author.Tests.{eq-eqb, le-leb, leb-true}
-use Rattle.checks.proofs.Checked.{check-step}
-use Rattle.checks.specs.Picture.{checkPicture, isSide}
-use Rattle.laws.proofs.Bools.{and-left, both}
+use borrow.Author.Tests.{eq-eqb, leb-true}
+use Rattle.lcr_core.proofs.Versions.{version-passes}
+use Rattle.picture_checks.proofs.Checked.{check-step}
+use Rattle.picture_checks.specs.Picture.{checkPicture, isSide}
+use Rattle.laws.proofs.Bools.{and-left}
 use Rattle.laws.specs.Check.{orRefuse}
 use Rattle.laws.proofs.Planes.{plane-drawn}
 use Rattle.laws.specs.Plane.{drawn}
@@ -29,7 +30,7 @@ use Rattle.marks.proofs.PoseMoves.{Source, move-corner, move-maps, move-reverse
 use Rattle.marks.proofs.Poses.{counts-moved, pose-within}
 use Rattle.marks.proofs.Rises.{score-full}
 use Rattle.marks.specs.Classify.{marksOf}
-use Rattle.marks.specs.Correlate.{bestOf, score}
+use Rattle.marks.specs.Correlate.{bestPose, score}
 use Rattle.marks.specs.Doors.{correlateAnswer, markedPose}
 use Rattle.marks.specs.Pose.{MarksMoved, agreement, cornerTo, countsOf, poseAt, reversedTo}
 use Rattle.marks.specs.declared.correlate.Best.the-variants.{Pose}
@@ -38,7 +39,7 @@ use Rattle.proof_ring.specs.Claims.{ReadBack, ReadBackAt, SamePose, mark
 use Rattle.proof_ring.specs.Doors.{answerOf, checkDrawing, checkPlan, drawAnswer, leastSide}
 use Rattle.proof_ring.specs.Picture.{greyOf, posed, ringPixel, ringSquare, squareSide}
 use Rattle.proof_ring.specs.Reading.{centre, lightRead, marksRead}
-use Rattle.proof_ring.specs.declared.Answer.the-variants.{Done, Refused}
+use Rattle.proof_ring.specs.declared.Answer.the-variants.{Done}
 use Rattle.proof_ring.proofs.Boxes.{framed-at}
 use Rattle.proof_ring.proofs.Centres.{centre-cell, centre-in}
 use Rattle.proof_ring.proofs.Squares.{square-mark}
@@ -87,9 +88,6 @@ module _ (v pitch r : ℕ) (reversed : Bool) (old : List ℕ) (w h : ℕ) (some 
         ∙ read-light p k
         ∙ sym (marks-at (positionsOf v) (mark v) p false k);
   }
-
-version-test : (v : ℕ) → IsVersion v → isVersion v ≡ true
-version-test v is = both (leb 1 v) (leb v 64) (le-leb 1 v (is .least)) (le-leb v 64 (is .greatest))
 
 -- ---- together
 
@@ -149,7 +147,7 @@ read-back v pitch r reversed old w h is some few wide high = record { agrees = a
         (λ same. ne (place-back i r reversed hi (same .corner) (same .reversed))) in
         omega (arith, place-count v marks i hi)
 
-    winner : bestOf (countsOf v marks) ≡ at
+    winner : bestPose (countsOf v marks) ≡ at
     winner = best-only (countsOf v marks) at (positionsOf v) top lower (place-few r reversed few4)
 
     answer : markedPose v marks ≡ Pose (score v (positionsOf v)) r reversed
@@ -166,7 +164,7 @@ read-back v pitch r reversed old w h is some few wide high = record { agrees = a
     best =
         sym (refuse-yes (isVersion v) (answers.Refused 8) (orRefuse (eqb (length marks) (positionsOf v)) (answers.Refused 11)
         (markedPose v marks))
-        (version-test v is))
+        (version-passes v is))
         ∙ sym (refuse-yes (eqb (length marks) (positionsOf v)) (answers.Refused 11) (markedPose v marks)
         (eq-eqb (length marks) (positionsOf v) many))
         ∙ answer

@@ -16,7 +16,7 @@ use Rattle.laws.proofs.Bools.{and-left, and-right, clash, falsely}
 use Rattle.laws.proofs.Planes.{place-row}
 use Rattle.laws.specs.Plane.{Plane}
 use Rattle.proof_ring.specs.Claims.{OffSquare, after, before}
-use Rattle.proof_ring.specs.Painting.{darkBox, darkIf}
+use Rattle.proof_ring.specs.Inner.{darkBox, darkIf}
 use Rattle.proof_ring.specs.Picture.{framed, inSquare}
 use Rattle.proof_ring.specs.declared.cells.Spot.{Spot}
 use Rattle.proof_ring.proofs.Rows.{InBox, box-by}

@@ -5,14 +5,14 @@
 -- Assumes nothing.
 use mathlib.Core.Path.{_≡_, ap, _∙_}
 use mathlib.Core.List.{List}
-use Prim.Native.Nat.{ℕ, _+_, _*_, _-_, _/_, _<_, _≤_}
+use Prim.Native.Nat.{ℕ, _+_, _*_, _/_, _<_, _≤_}
 use native.Mathlib.Omega.{arith}
 use lib.Dec.{leb}
 use lib.ListN.{getD}
 use Rattle.laws.proofs.Planes.{row-end}
 use Rattle.lcr_core.specs.Version.{IsVersion, positionsOf, quarterOf}
 use Rattle.proof_ring.specs.Doors.{leastSide}
-use Rattle.proof_ring.specs.Painting.{outerSpot}
+use Rattle.proof_ring.specs.Inner.{outerSpot}
 use Rattle.proof_ring.specs.Reading.{centre, lightRead}
 use Rattle.proof_ring.specs.declared.cells.Spot.{Spot}
 use Rattle.proof_ring.proofs.Boxes.{cell-of}

@@ -22,7 +22,7 @@ use Rattle.laws.specs.Plane.{Plane, drawn, plane, rowwise}
 use Rattle.lcr_core.specs.Mark.{AllMarks}
 use Rattle.lcr_core.specs.Version.{positionsOf, quarterOf, sideOf}
 use Rattle.proof_ring.specs.Doors.{leastSide}
-use Rattle.proof_ring.specs.Painting.{Painted, Repaints, Room, Shows, darkAt, darkBox, darkIf, darkUnless, spotTo, squareBelow}
+use Rattle.proof_ring.specs.Inner.{Painted, Repaints, Room, Shows, darkAt, darkBox, darkIf, darkUnless, spotTo, squareBelow}
 use Rattle.proof_ring.specs.Picture.{framed, posed, ringPixel, ringSquare, squareSide}
 use Rattle.proof_ring.specs.declared.cells.Spot.{Spot}
 use Rattle.proof_ring.specs.declared.paint.Plan.{Plan}

@@ -17,12 +17,12 @@ use mir.Val.{ofZ, toZ}
 use Rattle.lcr_core.proofs.Positions.{along-at}
 use Rattle.lcr_core.proofs.Round.{outer-within}
 use Rattle.lcr_core.proofs.Signed.{low-range, read}
-use Rattle.lcr_core.specs.Border.{InRange, alongOf, coordinate, depthOf, innerCell, inward, isTwoDeep, outerCell, outerX, outerY, placeOf}
+use Rattle.lcr_core.specs.Border.{InRange, alongOf, coordinate, depthOf, innerCell, inward, isTwoDeep, outerCell, outerX, outerY, positionAt}
 use Rattle.lcr_core.specs.Version.{IsVersion, positionsOf, quarterOf}
 use Rattle.lcr_core.specs.declared.border.Cell.{Cell}
 use Rattle.lcr_core.specs.declared.border.Place.{Place}
 use Rattle.lcr_core.specs.declared.border.Place.the-variants.{At, Outside}
-use Rattle.proof_ring.specs.Painting.{innerSpot, isPlaceAt, outerSpot, ownInner}
+use Rattle.proof_ring.specs.Inner.{innerSpot, isPlaceAt, outerSpot, ownInner}
 use Rattle.proof_ring.specs.declared.cells.Spot.{Spot}
 use Rattle.proof_ring.proofs.Turning.{Within}
 
@@ -106,17 +106,17 @@ spot-is cell s rx ry c ex ey =
 -- ---- inner cells that carry the mark
 
 module _ (v p : ℕ) (cell : Cell) (c : CellIs cell (innerSpot v p .x) (innerSpot v p .y)) (place : Place)
-    (found : place ≡ placeOf v (toZ w32 (ofZ w32 (cell .x))) (toZ w32 (ofZ w32 (cell .y)))) (deep : isTwoDeep p ≡ true) where
-  place-is : placeOf v (coordinate (innerSpot v p .x)) (coordinate (innerSpot v p .y)) ≡ place
+    (found : place ≡ positionAt v (toZ w32 (ofZ w32 (cell .x))) (toZ w32 (ofZ w32 (cell .y)))) (deep : isTwoDeep p ≡ true) where
+  place-is : positionAt v (coordinate (innerSpot v p .x)) (coordinate (innerSpot v p .y)) ≡ place
   place-is =
       sym (found
-      ∙ ap (λ (z : ℤ). placeOf v z (toZ w32 (ofZ w32 (cell .y)))) (as-read (innerSpot v p .x) (cell .x) (c .wide) (c .across))
-      ∙ ap (λ (z : ℤ). placeOf v (coordinate (innerSpot v p .x)) z) (as-read (innerSpot v p .y) (cell .y) (c .high) (c .down)))
+      ∙ ap (λ (z : ℤ). positionAt v z (toZ w32 (ofZ w32 (cell .y)))) (as-read (innerSpot v p .x) (cell .x) (c .wide) (c .across))
+      ∙ ap (λ (z : ℤ). positionAt v (coordinate (innerSpot v p .x)) z) (as-read (innerSpot v p .y) (cell .y) (c .high) (c .down)))
 
   own-by : isPlaceAt p place ≡ ownInner v p
   unfolding ownInner
   own-by =
-      sym (ap (λ (t : Bool). t && isPlaceAt p (placeOf v (coordinate (innerSpot v p .x)) (coordinate (innerSpot v p .y)))) deep
+      sym (ap (λ (t : Bool). t && isPlaceAt p (positionAt v (coordinate (innerSpot v p .x)) (coordinate (innerSpot v p .y)))) deep
       ∙ ap (λ (s : Place). isPlaceAt p s) place-is)
 
   pub own-yes : (k : ℕ) → place ≡ At k → eqb k p ≡ ownInner v p
@@ -128,4 +128,4 @@ module _ (v p : ℕ) (cell : Cell) (c : CellIs cell (innerSpot v p .x) (innerSpo
 pub own-shallow : (v p : ℕ) → isTwoDeep p ≡ false → false ≡ ownInner v p
 unfolding ownInner
 own-shallow v p e =
-    sym (ap (λ (t : Bool). t && isPlaceAt p (placeOf v (coordinate (innerSpot v p .x)) (coordinate (innerSpot v p .y)))) e)
+    sym (ap (λ (t : Bool). t && isPlaceAt p (positionAt v (coordinate (innerSpot v p .x)) (coordinate (innerSpot v p .y)))) e)

@@ -6,7 +6,7 @@ use mathlib.Core.Path.{_≡_, refl, sym, _∙_}
 use mathlib.Core.Logic.{_⊎_, inl, inr}
 use mathlib.Core.Bool.{Bool, true, false, _&&_, cond}
 use mathlib.Core.List.{List}
-use Prim.Native.Nat.{ℕ, _+_, _*_, _-_, _<_, _≤_}
+use Prim.Native.Nat.{ℕ, _+_, _*_, _<_, _≤_}
 use native.Mathlib.Decide.{ℕ-discrete, decLt}
 use native.Mathlib.Omega.{arith}
 use lib.Dec.{leb, ltb}
@@ -16,7 +16,7 @@ use lib.Seq.{length-sets, sets}
 use Rattle.laws.proofs.Planes.{row-end}
 use Rattle.laws.proofs.Stores.{run-at, run-off}
 use Rattle.laws.specs.Plane.{Plane, plane}
-use Rattle.proof_ring.specs.Painting.{Painted, darkBox}
+use Rattle.proof_ring.specs.Inner.{Painted, darkBox}
 
 -- ---- boxes
 

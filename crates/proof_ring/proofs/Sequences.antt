@@ -3,7 +3,7 @@
 -- Assumes nothing.
 use mathlib.Core.Path.{_∙_, _≡_, ap, refl, sym}
 use mathlib.Core.Bool.{Bool, Bool·beq, false, true}
-use Prim.Native.Nat.{_-_, _<_, ℕ}
+use Prim.Native.Nat.{_<_, ℕ}
 use native.Mathlib.Omega.{arith}
 use Rattle.laws.proofs.Counts.{count-every, count-ext, count-lt}
 use Rattle.laws.specs.Count.{count}

@@ -6,7 +6,7 @@
 use mathlib.Core.Path.{_≡_, refl, sym, ap, _∙_, subst}
 use mathlib.Core.Logic.{_⊎_, inl, inr, ⊎-elim}
 use mathlib.Core.Bool.{Bool, true, false, _&&_, cond}
-use Prim.Native.Nat.{ℕ, _-_, _%_, _<_, min}
+use Prim.Native.Nat.{ℕ, _%_, _<_, min}
 use native.Mathlib.Nat.{mod-eq-of-lt, mod-lt}
 use native.Mathlib.Omega.{arith}
 use lib.Dec.{eqb, leb}
@@ -14,23 +14,7 @@ use lib.IntN.{ℤ}
 use borrow.Author.Tests.{eq-eqb, eqb-true}
 use Rattle.laws.proofs.Bools.{and-left, and-right, both, either, falsely, or-left, or-right}
 use Rattle.lcr_core.proofs.Positions.{along-at, position-outer}
-use Rattle.lcr_core.specs.Border.{
-  alongOf,
-  cellAt,
-  coordinate,
-  edgeOf,
-  innerCell,
-  inward,
-  isTwoDeep,
-  offsetOf,
-  onEdge,
-  outerCell,
-  outerX,
-  outerY,
-  pickPlace,
-  placeOf,
-  shellOf,
-}
+use Rattle.lcr_core.specs.Border.{alongOf, cellAt, coordinate, edgeOf, innerCell, inward, isTwoDeep, offsetOf, onEdge, outerCell, outerX, outerY, pickPlace, positionAt, shellOf}
 use Rattle.lcr_core.specs.Mark.{mark}
 use Rattle.lcr_core.specs.Version.{positionsOf, quarterOf, sideOf}
 use Rattle.lcr_core.specs.declared.border.Cell.{Cell}
@@ -47,8 +31,8 @@ not-outside p e = let z : _≡_ {A = ℕ} 0 1 = cc in omega arith
 pub same-at : (p k : ℕ) → _≡_ {A = Place} (At p) (At k) → p ≡ k
 same-at p k e = cc
 
-pub place-below : (v : ℕ) (x y : ℤ) (p : ℕ) → placeOf v x y ≡ At p → p < positionsOf v
-unfolding placeOf pickPlace
+pub place-below : (v : ℕ) (x y : ℤ) (p : ℕ) → positionAt v x y ≡ At p → p < positionsOf v
+unfolding positionAt pickPlace
 place-below v x y p e =
     go (leb 2 (shellOf (sideOf v) x y) && leb (shellOf (sideOf v) x y) 3)
     (onEdge (quarterOf v) (edgeOf (sideOf v) x y) (min (alongOf (offsetOf (sideOf v) x y)) (quarterOf v))) e
@@ -61,16 +45,16 @@ place-below v x y p e =
 
 -- the outer cell of p is p's
 pub outer-place : (v p x y : ℕ) → p < positionsOf v → x ≡ outerX (quarterOf v) p → y ≡ outerY (quarterOf v) p
-    → placeOf v (coordinate x) (coordinate y) ≡ At p
+    → positionAt v (coordinate x) (coordinate y) ≡ At p
 outer-place v p x y h ex ey =
-    ap (λ (k : ℕ). placeOf v (coordinate k) (coordinate y)) ex
-    ∙ ap (λ (k : ℕ). placeOf v (coordinate (outerX (quarterOf v) p)) (coordinate k)) ey ∙ plain
+    ap (λ (k : ℕ). positionAt v (coordinate k) (coordinate y)) ex
+    ∙ ap (λ (k : ℕ). positionAt v (coordinate (outerX (quarterOf v) p)) (coordinate k)) ey ∙ plain
   where
-    plain : placeOf v (coordinate (outerX (quarterOf v) p)) (coordinate (outerY (quarterOf v) p)) ≡ At p
+    plain : positionAt v (coordinate (outerX (quarterOf v) p)) (coordinate (outerY (quarterOf v) p)) ≡ At p
     plain =
         unfold outerCell in
         (subst
-        (λ (k : ℕ). placeOf v (coordinate (outerX (quarterOf v) k)) (coordinate (outerY (quarterOf v) k)) ≡ At p)
+        (λ (k : ℕ). positionAt v (coordinate (outerX (quarterOf v) k)) (coordinate (outerY (quarterOf v) k)) ≡ At p)
         (mod-eq-of-lt h) (position-outer v p h))
 
 -- ---- cells that carry a mark
@@ -118,7 +102,7 @@ carries-which q p x y e =
 
 -- ---- the square in the request's words
 
-square-at : (v p x y : ℕ) → placeOf v (coordinate x) (coordinate y) ≡ At p → carries (quarterOf v) p x y ≡ true
+square-at : (v p x y : ℕ) → positionAt v (coordinate x) (coordinate y) ≡ At p → carries (quarterOf v) p x y ≡ true
     → ringSquare v x y ≡ greyOf (mark v p)
 unfolding ringSquare greyAt
 square-at v p x y e c =
@@ -177,15 +161,15 @@ square-inner v p x y h o =
 pub square-rest : (v x y : ℕ) → ((p : ℕ) → p < positionsOf v → IsOuter v p x y → ⊥) → ((p : ℕ) → p < positionsOf v → IsOwnInner v p x y → ⊥)
     → ringSquare v x y ≡ 255
 unfolding ringSquare greyAt
-square-rest v x y noOuter noInner = go (placeOf v (coordinate x) (coordinate y)) refl
+square-rest v x y noOuter noInner = go (positionAt v (coordinate x) (coordinate y)) refl
   where
-    none : (p : ℕ) → placeOf v (coordinate x) (coordinate y) ≡ At p → carries (quarterOf v) p x y ≡ true → ⊥
+    none : (p : ℕ) → positionAt v (coordinate x) (coordinate y) ≡ At p → carries (quarterOf v) p x y ≡ true → ⊥
     none p e c =
         let h = place-below v (coordinate x) (coordinate y) p e in
         ⊎-elim (λ a. noOuter p h (record { is = outer-at v p x y h (a .0) (a .1) }))
         (λ b. noInner p h (record { is = inner-at v p x y h (b .across) (b .down); reference = b .deep; back = e }))
         (carries-which (quarterOf v) p x y c)
 
-    go : (z : Place) → placeOf v (coordinate x) (coordinate y) ≡ z → greyAt v x y z ≡ 255
+    go : (z : Place) → positionAt v (coordinate x) (coordinate y) ≡ z → greyAt v x y z ≡ 255
     go Outside e = refl
     go (At p) e = ap (λ (t : Bool). cond t (greyOf (mark v p)) 255) (falsely (carries (quarterOf v) p x y) (none p e))

@@ -17,7 +17,7 @@ use Rattle.lcr_core.specs.Version.{positionsOf, quarterOf}
 use Rattle.marks.proofs.PoseMoves.{pose-next, pose-own}
 use Rattle.marks.proofs.Poses.{four, pose-within}
 use Rattle.marks.specs.Pose.{poseAt}
-use Rattle.proof_ring.specs.Painting.{darkIf, spotTo, spotTurned}
+use Rattle.proof_ring.specs.Inner.{darkIf, spotTo, spotTurned}
 use Rattle.proof_ring.specs.Picture.{posed, squareSide, turns}
 use Rattle.proof_ring.specs.declared.cells.Spot.{Spot}
 use Rattle.proof_ring.proofs.Boxes.{Hit, dark-by, dark-in, dark-out}

@@ -5,7 +5,7 @@ use mathlib.Core.List.{List}
 use Prim.Native.Nat.{ℕ, _+_, _*_, _≤_, _<_}
 use lib.Ieee.{binary32, ofBits}
 use Rattle.laws.specs.Plane.{drawn}
-use Rattle.lcr_core.specs.Border.{cellAt, coordinate, innerCell, isTwoDeep, outerCell, outerX, outerY, placeOf}
+use Rattle.lcr_core.specs.Border.{cellAt, coordinate, innerCell, isTwoDeep, outerCell, outerX, outerY, positionAt}
 use Rattle.lcr_core.specs.Mark.{mark}
 use Rattle.lcr_core.specs.Version.{IsVersion, positionsOf, quarterOf}
 use Rattle.lcr_core.specs.declared.border.Place.the-variants.{At}
@@ -26,7 +26,7 @@ pub record IsOuter (v p x y : ℕ) : Type 0 where
 pub record IsOwnInner (v p x y : ℕ) : Type 0 where
   pub is : cellAt x y ≡ innerCell v p
   pub reference : isTwoDeep p ≡ true
-  pub back : placeOf v (coordinate x) (coordinate y) ≡ At p
+  pub back : positionAt v (coordinate x) (coordinate y) ≡ At p
 
 -- A column or row of pixels is one of the cell at place k, two cells from the edge
 pub record InCell (pitch k x : ℕ) : Type 0 where

@@ -1,4 +1,4 @@
--- Answers of the doors (document 01's word for a public entry) that draw a ring and read one back, as the request on drawing a proof ring
+-- Answers of the doors that draw a ring and read one back, as the request on drawing a proof ring
 -- has them, with its refusals in its order: 8, a version outside 1..64; 1, a side outside 1..4,096; 2, bytes not width × height; 16, a
 -- pitch outside 1..16, a corner outside 0..3 or a side below (version side + 10) × pitch; and, at the reading, 11, marks not as many as
 -- positions. Definitions only. Assumes nothing.
@@ -7,7 +7,7 @@ use mathlib.Core.List.{List}
 use Prim.Native.Nat.{ℕ, zero, suc, _+_, _*_, _≤_}
 use lib.Dec.{eqb, leb}
 use lib.ListN.{length}
-use Rattle.checks.specs.Picture.{checkPicture}
+use Rattle.picture_checks.specs.Picture.{checkPicture}
 use Rattle.laws.specs.Check.{orRefuse}
 use Rattle.laws.specs.Plane.{drawn}
 use Rattle.laws.specs.Said.{Said, give, refuse}

@@ -6,7 +6,7 @@ use Prim.Native.Nat.{ℕ, zero, suc, _+_, _-_, _/_}
 use lib.Dec.{leb, ltb, eqb}
 use Rattle.laws.specs.Move.{transpose, turn}
 use Rattle.laws.specs.Plane.{Plane}
-use Rattle.lcr_core.specs.Border.{coordinate, inward, isTwoDeep, outerX, outerY, placeOf}
+use Rattle.lcr_core.specs.Border.{coordinate, inward, isTwoDeep, outerX, outerY, positionAt}
 use Rattle.lcr_core.specs.Mark.{mark}
 use Rattle.lcr_core.specs.Version.{quarterOf, sideOf}
 use Rattle.lcr_core.specs.declared.border.Place.{Place}
@@ -38,7 +38,7 @@ greyAt v x y Outside = 255
 
 -- The ring's square in "the pose of corner 0, forwards"
 unfoldable pub ringSquare : ℕ → Plane
-ringSquare v x y = greyAt v x y (placeOf v (coordinate x) (coordinate y))
+ringSquare v x y = greyAt v x y (positionAt v (coordinate x) (coordinate y))
 
 -- r quarter turns clockwise of a square of n by n cells
 unfoldable pub turns : ℕ → ℕ → Plane → Plane

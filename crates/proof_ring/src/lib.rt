@@ -6,22 +6,15 @@
 // 0..3 or a side below (version side + 10) times the pitch; at the reading then 11, marks not as
 // many as positions. No door has a `requires`.
 ghost use mathlib.Core.Path.{_≡_};
-ghost use Rattle.checks.specs.Picture.{checkPicture, Sides};
+ghost use Rattle.picture_checks.specs.Picture.{checkPicture, Sides};
 ghost use Rattle.lcr_core.specs.Version.{IsVersion};
-ghost use Rattle.proof_ring.specs.Doors.{
-  checkPlan,
-  Planned,
-  drawAnswer,
-  pixelsAfter,
-  readAnswer,
-  marksAfter,
-};
+ghost use Rattle.proof_ring.specs.Doors.{checkPlan, Planned, drawAnswer, pixelsAfter, readAnswer, marksAfter};
 use crate::paint::Plan;
 use crate::paint::draw;
 use crate::read::read_marks;
-use checks::check_picture;
 use lcr_core::version::Version;
 use lcr_core::version::VersionAnswer;
+use picture_checks::check_picture;
 
 pub mod cells;
 pub mod claims;
@@ -39,8 +32,8 @@ pub enum Answer {
 // The checks of pitch, corner and sides: 16, else 0.
 fn check_plan(version: Version, pitch: u32, corner: u32, w: usize, h: usize) -> u32
     requires { ⌜ IsVersion (version .0) ⌝ }
-    ensures { λ r. ⌜ r ≡ checkPlan (version .0) pitch corner w h 0 ⌝ }
-    ensures { λ r. ⌜ (r ≡ 0 → Planned (version .0) pitch corner w h) ⌝ }
+    ensures answer { λ r. ⌜ r ≡ checkPlan (version .0) pitch corner w h 0 ⌝ }
+    ensures passed { λ r. ⌜ (r ≡ 0 → Planned (version .0) pitch corner w h) ⌝ }
 {
     if pitch < 1 {
         return 16;
@@ -64,8 +57,8 @@ fn check_plan(version: Version, pitch: u32, corner: u32, w: usize, h: usize) -> 
 // The checks of a picture, then those of pitch, corner and sides.
 fn check(version: Version, pitch: u32, corner: u32, w: usize, h: usize, bytes: usize) -> u32
     requires { ⌜ IsVersion (version .0) ⌝ }
-    ensures { λ r. ⌜ r ≡ checkPicture w h bytes (checkPlan (version .0) pitch corner w h 0) ⌝ }
-    ensures { λ r. ⌜ (r ≡ 0 → Sides w h bytes × Planned (version .0) pitch corner w h) ⌝ }
+    ensures answer { λ r. ⌜ r ≡ checkPicture w h bytes (checkPlan (version .0) pitch corner w h 0) ⌝ }
+    ensures passed { λ r. ⌜ (r ≡ 0 → Sides w h bytes × Planned (version .0) pitch corner w h) ⌝ }
 {
     let no = check_picture(w, h, bytes);
     if no != 0 {
@@ -85,8 +78,8 @@ pub fn draw_ring(
     w: usize,
     h: usize,
 ) -> Answer
-    ensures { λ r. ⌜ r ≡ drawAnswer version pitch corner (now (pixels .entry)) w h ⌝ }
-    ensures { λ r. ⌜
+    ensures answer { λ r. ⌜ r ≡ drawAnswer version pitch corner (now (pixels .entry)) w h ⌝ }
+    ensures pixels { λ r. ⌜
         now (pixels .exit)
         ≡ pixelsAfter r version pitch corner reversed (now (pixels .entry)) w h ⌝ }
 {
@@ -120,9 +113,9 @@ pub fn read_ring(
     h: usize,
     marks: &mut [bool],
 ) -> Answer
-    ensures { λ r. ⌜
+    ensures answer { λ r. ⌜
         r ≡ readAnswer version pitch (now (pixels .entry)) w h (now (marks .entry)) ⌝ }
-    ensures { λ r. ⌜
+    ensures marks { λ r. ⌜
         now (marks .exit)
         ≡ marksAfter r version pitch (now (pixels .entry)) w (now (marks .entry)) ⌝ }
 {

@@ -1,5 +1,9 @@
--- A region's outline by the doors. The picture door: gridded. Kept regions: count-four, listed, kept-boxed. The outline door:
--- points-few, never-refused, points-room, points-part, points-past. Assumes nothing.
+-- A region's outline by the doors. The picture door: gridded. Kept regions: count-four, listed, kept-boxed. The outline door: points-few,
+-- never-refused, points-room, points-part, points-past.
+--     what the picture door leaves in the lent grids: gridded
+--     kept regions: count-four, listed, kept-boxed
+--     the outline door: points-few, never-refused, points-room, points-part, points-past
+-- Assumes nothing.
 use mathlib.Core.Path.{_≡_, refl, sym, ap, _∙_}
 use mathlib.Core.List.{List}
 use Prim.Native.Nat.{ℕ, zero, suc, _+_, _-_, _*_, _≤_, _<_}
@@ -9,26 +13,27 @@ use lib.ListN.{length, getD, take, drop}
 use lib.Seq.{take-at}
 use lib.Ieee.{Float}
 use borrow.Author.Tests.{lt-ltb, le-leb, eq-eqb}
+use Rattle.hull.proofs.Floats.{length-floats}
 use Rattle.laws.specs.Move.{Box}
 use Rattle.laws.specs.Plane.{Plane, plane, drawn}
 use Rattle.laws.specs.Lent.{UntouchedPast, laid}
 use Rattle.laws.proofs.Past.{past-front}
 use Rattle.laws.proofs.Planes.{plane-drawn}
-use Rattle.checks.specs.Picture.{Sides}
+use Rattle.picture_checks.specs.Picture.{Sides}
 use Rattle.levels.specs.Level.{cells, level}
-use Rattle.regions.specs.Cells.{cells8, cellsOf, labelAt}
+use Rattle.labels.specs.Cells.{cells8, cellsOf, labelAt}
 use Rattle.regions.specs.Kept.{keptCount, keptOf}
-use Rattle.regions.specs.Door.{noRegion, region, regionAt, keptRegions, levelsAfter, labelsAfter}
+use Rattle.regions.specs.Regions.{noRegion, region, regionAt, keptRegions, boxIn}
+use Rattle.picture.specs.Door.{levelsAfter, labelsAfter}
 use Rattle.regions.specs.declared.answer.Region.{Region}
 use Rattle.regions.proofs.Inside.{kept-inside}
 use Rattle.hull.specs.Points.{floatsOf}
 use Rattle.boundary.specs.Boundary.{memberAt, isMember}
 use Rattle.boundary.proofs.Boundary.{Within, boundary-same}
 use Rattle.boundary.proofs.Members.{member-lists}
-use Rattle.outline.specs.Door.{checkOutline, boxAt, doorPoints, answered, listAfter}
+use Rattle.outline.specs.Door.{checkOutline, doorPoints, outlineBy, listAfter}
 use Rattle.outline.specs.declared.Answer.{Answer}
 use Rattle.outline.specs.declared.Answer.the-variants.{Points, Refused}
-use Rattle.outline.proofs.Writes.{length-floats}
 use Rattle.outline.proofs.Doors.{points-le}
 use Rattle.region_outline.specs.Region.{regionPoints, needOf, Gridded, Boxed}
 
@@ -88,7 +93,7 @@ module _ (s : List ℕ) (w h : ℕ) (t : Sides w h (length s)) (r : Region) (g :
   p = plane w s
 
   abbrev box : Box
-  box = boxAt (r .x0) (r .y0) (r .x1) (r .y1)
+  box = boxIn r
 
   within : Within box w h
   within = record { across′ = omega (arith, g .across); down′ = omega (arith, g .down); wide = g .right; high = g .bottom }
@@ -101,7 +106,7 @@ module _ (s : List ℕ) (w h : ℕ) (t : Sides w h (length s)) (r : Region) (g :
 
   module _ (levels labels : List ℕ) (m : Gridded s w h levels labels) (room : ℕ) (a : needOf w h ≤ room) where
     abbrev number : ℕ
-    number = checkOutline w h (length s) (r .x0) (r .y0) (r .x1) (r .y1) (length levels) (length labels) room
+    number = checkOutline w h (length s) box (length levels) (length labels) room
 
     outline-passes : number ≡ 0
     outline-passes =
@@ -122,7 +127,7 @@ module _ (s : List ℕ) (w h : ℕ) (t : Sides w h (length s)) (r : Region) (g :
 
     -- its points are those of the picture's own thresholds and labels
     abbrev listed-points : List (ℕ × ℕ)
-    listed-points = doorPoints (r .label) w s levels labels (r .x0) (r .y0) (r .x1) (r .y1)
+    listed-points = doorPoints (r .label) w s levels labels box
 
     door-points : listed-points ≡ points
     unfolding doorPoints
@@ -133,12 +138,12 @@ module _ (s : List ℕ) (w h : ℕ) (t : Sides w h (length s)) (r : Region) (g :
             unfold memberAt in
             member-lists p w h (r .label) (plane (cells w) levels) (plane (cells8 w) labels) (m .levelsAre) (m .labelsAre) x y lx ly
 
-    module _ (answer : Answer) (e : answer ≡ answered number (length listed-points)) where
+    module _ (answer : Answer) (e : answer ≡ outlineBy number (length listed-points)) where
       answer-is : answer ≡ Points (length points)
       answer-is =
-          e ∙ ap (λ (k : ℕ). answered k (length listed-points)) outline-passes ∙ ap (λ (l : List (ℕ × ℕ)). answered 0 (length l))
+          e ∙ ap (λ (k : ℕ). outlineBy k (length listed-points)) outline-passes ∙ ap (λ (l : List (ℕ × ℕ)). outlineBy 0 (length l))
           door-points
-          ∙ unfold answered in refl
+          ∙ unfold outlineBy in refl
 
       pub never-refused : (k : ℕ) → answer ≡ Refused k → ⊥
       unfolding tagOf

@@ -3,16 +3,16 @@
 use Prim.Native.Nat.{ℕ, _+_, _*_, _≤_, _<_}
 use mathlib.Core.List.{List}
 use lib.ListN.{length}
+use Rattle.regions.specs.Regions.{boxIn}
 use Rattle.laws.specs.Plane.{Plane, plane, Alike}
 use Rattle.levels.specs.Level.{cells, level}
-use Rattle.regions.specs.Cells.{cells8, cellsOf, labelAt}
+use Rattle.labels.specs.Cells.{cells8, cellsOf, labelAt}
 use Rattle.regions.specs.declared.answer.Region.{Region}
 use Rattle.boundary.specs.Boundary.{isMember, boundary}
-use Rattle.outline.specs.Door.{boxAt}
 
 -- The boundary points of a region r of the picture p: of its label, in its box. The label 0 is all ink.
 abbrev pub regionPoints : Plane → ℕ → ℕ → Region → List (ℕ × ℕ)
-regionPoints p w h r = boundary 4 (isMember p w h (r .label)) (boxAt (r .x0) (r .y0) (r .x1) (r .y1))
+regionPoints p w h r = boundary 4 (isMember p w h (r .label)) (boxIn r)
 
 -- What an outline of a whole picture can need: so many numbers.
 abbrev pub needOf : ℕ → ℕ → ℕ

@@ -6,7 +6,7 @@ ghost use Prim.Native.Nat.{_*_, _≤_};
 ghost use lib.ListN.{length, take};
 ghost use Rattle.laws.specs.Lent.{UntouchedPast};
 ghost use Rattle.laws.specs.Plane.{plane};
-ghost use Rattle.checks.specs.Picture.{Sides};
+ghost use Rattle.picture_checks.specs.Picture.{Sides};
 ghost use Rattle.hull.specs.Points.{floatsOf};
 ghost use Rattle.region_outline.specs.Region.{regionPoints, needOf, Gridded, Boxed};
 
@@ -24,11 +24,11 @@ pub fn region_points(
     requires { ⌜ Gridded (now s) w h (now levels) (now labels) ⌝ }
     requires { ⌜ Boxed w h r ⌝ }
     requires { ⌜ needOf w h ≤ length (now list) ⌝ }
-    ensures { λ n. ⌜ 2 * n ≤ needOf w h ⌝ }
-    ensures { λ n. ⌜
+    ensures bounds { λ n. ⌜ 2 * n ≤ needOf w h ⌝ }
+    ensures list { λ n. ⌜
         take (2 * n) (now (list .exit))
         ≡ floatsOf (regionPoints (plane w (now (s .entry))) w h r) ⌝ }
-    ensures { λ n. ⌜ UntouchedPast (needOf w h) (now (list .entry)) (now (list .exit)) ⌝ }
+    ensures list_past { λ n. ⌜ UntouchedPast (needOf w h) (now (list .entry)) (now (list .exit)) ⌝ }
 {
     let x0 = r.x0 as usize;
     let y0 = r.y0 as usize;

@@ -1,4 +1,4 @@
--- 15 cells are dropped and 16 kept, document 01's ★ line, for any sizes of groups. Assumes nothing.
+-- 15 cells are dropped and 16 kept, a line of rule 49, for any sizes of groups. Assumes nothing.
 use mathlib.Core.Bool.{false, true}
 use mathlib.Core.Path.{_≡_, refl}
 use Prim.Native.Nat.{_<_, ℕ}

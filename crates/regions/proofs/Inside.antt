@@ -1,18 +1,18 @@
 -- The kept regions of a picture lie within it. kept-some: some cell has the label; kept-inside: the box is within the picture and not
 -- empty. How large their numbers are: groups-le, label-le, cells-le. Assumes nothing.
 use mathlib.Core.Path.{_≡_}
-use mathlib.Core.Bool.{Bool, true, _&&_}
+use mathlib.Core.Bool.{true, _&&_}
 use Prim.Native.Nat.{ℕ, suc, _+_, _≤_, _<_}
 use native.Mathlib.Omega.{arith}
-use lib.Dec.{eqb, leb}
+use lib.Dec.{eqb}
 use borrow.Author.Tests.{leb-true, eqb-true}
 use Rattle.laws.specs.Plane.{Plane}
 use Rattle.laws.proofs.Counts.{least-le, count-most, count-some}
-use Rattle.regions.specs.Labels.{near, first?}
-use Rattle.regions.specs.Cells.{cells8, cellsOf, inkCell, cellLabel, groupsOf, groupSize}
+use Rattle.labels.specs.Labels.{near, first?}
+use Rattle.labels.specs.Cells.{cells8, cellsOf, inkCell, cellLabel, groupsOf, groupSize}
 use Rattle.regions.specs.Kept.{place, nth, ahead, want, keptOf, keptAt, keptCount, keptLabel, keptCells}
 use Rattle.regions.specs.Boxes.{regionBox}
-use Rattle.regions.proofs.Kept.{At, kept-at}
+use Rattle.regions.proofs.Kept.{kept-at}
 use Rattle.regions.proofs.Regions.{region-in}
 
 module _ (p : Plane) (w h : ℕ) where

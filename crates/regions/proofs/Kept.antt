@@ -3,15 +3,15 @@
 -- Assumes nothing.
 use mathlib.Core.Path.{_≡_, refl, sym, _∙_, ap}
 use mathlib.Core.Logic.{_⊎_, inl, inr, ⊎-elim}
-use mathlib.Core.Bool.{Bool, true, false, _&&_, _||_, not}
-use Prim.Native.Nat.{ℕ, zero, suc, _+_, _<_, _≤_, min}
+use mathlib.Core.Bool.{Bool, true, false, _&&_, not}
+use Prim.Native.Nat.{ℕ, zero, suc, _<_, _≤_, min}
 use native.Mathlib.Omega.{arith}
-use native.Mathlib.Decide.{ℕ-discrete, decLt}
+use native.Mathlib.Decide.{decLt}
 use lib.Dec.{eqb, ltb, leb}
 use borrow.Author.Tests.{eq-eqb, ne-eqb, eqb-true, lt-ltb, ltb-true}
 use Rattle.laws.specs.Count.{count, least}
 use Rattle.laws.proofs.Bools.{both, and-left, and-right, either, or-left, or-right, which, clash}
-use Rattle.laws.proofs.Counts.{count-into, count-add, count-ext, count-yes, count-every, least-le, least-before, least-end}
+use Rattle.laws.proofs.Counts.{count-into, count-add, count-ext, count-every, least-le, least-before, least-end}
 use Rattle.regions.specs.Kept.{place, nth, aheadBy, ahead, want, keptOf, keptAt}
 use Rattle.regions.proofs.Select.{Order, nth-is, place-one, place-under}
 

@@ -1,4 +1,7 @@
--- The loop that lists the kept regions (Listing), and the answer by a list of labels as the answer of a picture. Assumes nothing.
+-- The loop that lists the kept regions (Listing), and the answer by a list of labels as the answer of a picture.
+--     Listing, listing-begin, listing-turn, listing-end
+--     the labels of a picture in a list: regions-listed
+-- Assumes nothing.
 use mathlib.Core.Bool.{Bool}
 use mathlib.Core.List.{List, [], _∷_}
 use mathlib.Core.Path.{_∙_, _≡_, ap, refl, sym}
@@ -15,14 +18,12 @@ use Rattle.laws.proofs.Counts.{count-ext}
 use Rattle.laws.proofs.Folds.{getD-tab, length-tab}
 use Rattle.laws.specs.Fold.{tab}
 use Rattle.laws.specs.Plane.{Plane}
-use Rattle.levels.specs.Level.{cells}
 use Rattle.regions.proofs.Kept.{kept-at-ext, kept-of-ext}
 use Rattle.regions.specs.Boxes.{cellBox, highest, lowest, regionBox}
-use Rattle.regions.specs.Cells.{cellLabel, cells8, cellsOf, groupSize, groupsOf}
-use Rattle.regions.specs.Door.{keptRegions, noRegion, region, regionAt}
+use Rattle.labels.specs.Cells.{cellLabel, cells8, cellsOf, groupSize, groupsOf}
+use Rattle.regions.specs.Regions.{keptRegions, noRegion, region, regionAt}
 use Rattle.regions.specs.Kept.{keptAt, keptCells, keptCount, keptLabel, keptOf}
-use Rattle.regions.specs.Labels.{label}
-use Rattle.regions.specs.Listed.{columnOf, has, keptIn, placeIn, regionIn, rowOf, sizeIn}
+use Rattle.regions.specs.Inner.{cellColumn, has, keptIn, placeIn, regionIn, cellRow, sizeIn}
 use Rattle.regions.specs.declared.answer.Kept.{Kept}
 use Rattle.regions.specs.declared.answer.Region.{Region}
 
@@ -32,18 +33,12 @@ pub record Listing (labels : List ℕ) (m cw ch w h i : ℕ) (list : List Region
   pub done : (j : ℕ) → j < i → getD list j noRegion ≡ regionIn labels cw ch w h (keptAt (sizeIn labels) m j)
   pub rest : (j : ℕ) → i ≤ j → getD list j noRegion ≡ noRegion
 
-abbrev none : Region
-none = record { label = 0; cells = 0; x0 = 0; y0 = 0; x1 = 0; y1 = 0 }
-
 pub listing-begin : (labels : List ℕ) (m cw ch w h : ℕ)
     → Listing labels m cw ch w h 0
-    (record { label = 0; cells = 0; x0 = 0; y0 = 0; x1 = 0; y1 = 0 } ∷ record { label = 0; cells = 0; x0 = 0; y0 = 0; x1 = 0; y1 = 0 }
-    ∷ record { label = 0; cells = 0; x0 = 0; y0 = 0; x1 = 0; y1 = 0 } ∷ record { label = 0; cells = 0; x0 = 0; y0 = 0; x1 = 0; y1 = 0 } ∷
-    [])
-unfolding noRegion
+    (noRegion ∷ noRegion ∷ noRegion ∷ noRegion ∷ [])
 listing-begin labels m cw ch w h = record { many = refl; done = λ j b. absurd (omega arith); rest = λ j b. at j }
   where
-    at : (j : ℕ) → getD {A = Region} (none ∷ none ∷ none ∷ none ∷ []) j none ≡ none
+    at : (j : ℕ) → getD {A = Region} (noRegion ∷ noRegion ∷ noRegion ∷ noRegion ∷ []) j noRegion ≡ noRegion
     at zero = refl
     at (suc zero) = refl
     at (suc (suc zero)) = refl
@@ -119,16 +114,16 @@ module _ (p : Plane) (w h : ℕ) (labels : List ℕ) (is : labels ≡ tab (cells
   high-listed l f = rw many (highest-ext (λ c. eqb (getD labels c 0) l) (λ c. eqb (cellLabel p w h c) l) f (cellsOf w h) (same l))
 
   region-listed : (i : ℕ) → regionIn labels (cells8 w) (cells8 h) w h (keptAt (sizeIn labels) (groupsOf p w h) i) ≡ region p w h i
-  unfolding regionIn region keptLabel keptCells regionBox cellBox columnOf rowOf
+  unfolding regionIn region keptLabel keptCells regionBox cellBox cellColumn cellRow
   region-listed i =
       let a = keptAt (groupSize p w h) (groupsOf p w h) i in
       rw (kept-at-ext (sizeIn labels) (groupSize p w h) (groupsOf p w h) (λ j b. size-listed j) i)
       (rw (
         size-listed a,
-        low-listed (suc a) (cells8 w) (columnOf (cells8 w)),
-        low-listed (suc a) (cells8 h) (rowOf (cells8 w)),
-        high-listed (suc a) (columnOf (cells8 w)),
-        high-listed (suc a) (rowOf (cells8 w)),
+        low-listed (suc a) (cells8 w) (cellColumn (cells8 w)),
+        low-listed (suc a) (cells8 h) (cellRow (cells8 w)),
+        high-listed (suc a) (cellColumn (cells8 w)),
+        high-listed (suc a) (cellRow (cells8 w)),
       ))
 
   kept-listed : keptOf (sizeIn labels) (groupsOf p w h) ≡ keptCount p w h

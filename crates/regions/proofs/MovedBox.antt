@@ -1,20 +1,21 @@
--- The box of a moved group is the moved box. Assumes nothing.
+-- The box of a moved group is the moved box.
+--     lowest-lower, lowest-glb, highest-upper, highest-lub, group, Pair, low-same, high-same, low-flip, high-flip, group-ink, group-to,
+--     move-pair, group-self
+-- Assumes nothing.
 use mathlib.Core.Path.{_≡_, refl, sym, _∙_, ap}
 use mathlib.Core.Logic.{_⊎_, inl, inr, ⊎-elim}
 use mathlib.Core.Bool.{Bool, true, false}
-use Prim.Native.Nat.{ℕ, zero, suc, _+_, _*_, _-_, _/_, _%_, _<_, _≤_}
+use Prim.Native.Nat.{ℕ, zero, suc, _+_, _-_, _<_, _≤_}
 use native.Mathlib.Omega.{arith}
 use native.Mathlib.Numerals.{add-one}
-use native.Mathlib.Nat.{mod-lt, div-lt-iff-lt-mul}
 use lib.Dec.{eqb}
 use borrow.Author.Tests.{eq-eqb, eqb-true}
 use Rattle.laws.proofs.Bools.{which, at-or-below, clash}
-use Rattle.regions.specs.Labels.{near, label, Grid}
-use Rattle.regions.proofs.Cells.{grid}
-use Rattle.regions.proofs.Groups.{Carry, undo, moved-groups}
+use Rattle.labels.specs.Labels.{near, label, NearGrid}
+use Rattle.labels.proofs.MovedGroups.{Carry, undo, moved-groups}
 use Rattle.regions.specs.Boxes.{lowest, highest}
 use Rattle.regions.proofs.Boxes.{lowest-yes, lowest-no, highest-yes, highest-no}
-use Rattle.regions.proofs.Graph.{label-none, label-ink}
+use Rattle.labels.proofs.Graph.{label-none, label-ink}
 
 module _ (p : ℕ → Bool) (f : ℕ → ℕ) where
   pub lowest-lower : (d k c : ℕ) → c < k → p c ≡ true → lowest p f d k ≤ f c
@@ -117,8 +118,8 @@ module _ {p : ℕ → Bool} {n : ℕ} {p′ : ℕ → Bool} {n′ : ℕ} {to bac
       omega (arith, lowest-lower p f d n a h t, e a h t)
 
 -- A group and the moved group are such a pair.
-module _ {ink : ℕ → Bool} {near₀ : ℕ → ℕ → Bool} {ink′ : ℕ → Bool} {near′ : ℕ → ℕ → Bool} {f : ℕ → ℕ} (n n′ : ℕ) (g : Grid ink near₀ n)
-    (g′ : Grid ink′ near′ n′) (m : Carry ink near₀ ink′ near′ f) where
+module _ {ink : ℕ → Bool} {near₀ : ℕ → ℕ → Bool} {ink′ : ℕ → Bool} {near′ : ℕ → ℕ → Bool} {f : ℕ → ℕ} (n n′ : ℕ) (g : NearGrid ink near₀ n)
+    (g′ : NearGrid ink′ near′ n′) (m : Carry ink near₀ ink′ near′ f) where
   pub group-ink : (a c : ℕ) → ink a ≡ true → group ink near₀ n a c ≡ true → ink c ≡ true
   unfolding group
   group-ink a c i t = ⊎-elim (λ x. x)
@@ -138,7 +139,7 @@ module _ {ink : ℕ → Bool} {near₀ : ℕ → ℕ → Bool} {ink′ : ℕ →
       )
 
 pub move-pair : {ink : ℕ → Bool} {near₀ : ℕ → ℕ → Bool} {ink′ : ℕ → Bool} {near′ : ℕ → ℕ → Bool} {f : ℕ → ℕ} (n n′ : ℕ)
-    (g : Grid ink near₀ n) (g′ : Grid ink′ near′ n′) (m : Carry ink near₀ ink′ near′ f) (a : ℕ) → ink a ≡ true
+    (g : NearGrid ink near₀ n) (g′ : NearGrid ink′ near′ n′) (m : Carry ink near₀ ink′ near′ f) (a : ℕ) → ink a ≡ true
     → Pair (group ink near₀ n a) n (group ink′ near′ n′ (f a)) n′ f (m .back)
 move-pair {f = f} n n′ g g′ m a i = record {
   there = λ c l t. group-to n n′ g g′ m a c i t;

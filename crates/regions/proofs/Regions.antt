@@ -1,30 +1,33 @@
 -- A kept region has a cell. The regions of a moved picture: as many, and as many kept, of which the i-th has the moved cells, the moved
--- box and as many cells. Assumes nothing.
-use mathlib.Core.Path.{_≡_, refl, sym, ap, ap₂, _∙_, subst}
-use mathlib.Core.Logic.{_↔_, _⊎_, inl, inr, ⊎-elim}
-use mathlib.Core.Bool.{Bool, true, false, _&&_}
-use Prim.Native.Nat.{ℕ, suc, _+_, _-_, _*_, _/_, _%_, _≤_, _<_, min}
+-- box and as many cells.
+--     a kept region of any picture: so many are large enough, and the region has a cell: region-cell
+--     the moved picture: group-count-of, kept-count-of, label-is′, size-of, region-of, cell-box-of, region-finer, box-of, region-in
+-- Assumes nothing.
+use mathlib.Core.Path.{_≡_, refl, sym, ap, ap₂, _∙_}
+use mathlib.Core.Logic.{_↔_, ⊎-elim}
+use mathlib.Core.Bool.{Bool, true}
+use Prim.Native.Nat.{ℕ, suc, _+_, _*_, _/_, _%_, _≤_, _<_, min}
 use native.Mathlib.Omega.{arith}
-use native.Mathlib.Nat.{mod-lt, div-lt-iff-lt-mul, min-le-right}
+use native.Mathlib.Nat.{min-le-right}
 use lib.Dec.{eqb}
-use borrow.Author.Tests.{eq-eqb, eqb-true}
+use borrow.Author.Tests.{eq-eqb}
 use Rattle.laws.specs.Plane.{Plane, Alike}
 use Rattle.laws.specs.Count.{count}
-use Rattle.laws.specs.Move.{Move, wideOf, highOf, moved, placeOf, Box, boxOf}
-use Rattle.laws.proofs.Bools.{which, clash}
+use Rattle.laws.specs.Move.{Move, wideOf, highOf, moved, placeOf, boxOf}
+use Rattle.laws.proofs.Bools.{which}
 use Rattle.laws.proofs.Moves.{place-within, sides-times}
-use Rattle.regions.specs.Labels.{near, label, first?, Grid}
-use Rattle.regions.specs.Cells.{cells8, cell, inkCell, cellsOf, cellLabel, labelAt, groupsOf, groupSize}
+use Rattle.labels.specs.Labels.{near, label, NearGrid}
+use Rattle.labels.specs.Cells.{cells8, cell, inkCell, cellsOf, cellLabel, labelAt, groupsOf, groupSize}
 use Rattle.regions.specs.Kept.{want, keptOf, keptAt, keptCount, keptLabel}
 use Rattle.regions.specs.Boxes.{lowest, highest, cellBox, regionBox}
-use Rattle.regions.proofs.Graph.{label-none, label-ink}
-use Rattle.regions.proofs.Groups.{Carry, undo, cell-column, cell-row, cell-lt, column-lt, row-lt, moved-groups}
+use Rattle.labels.proofs.Graph.{label-none, label-ink}
+use Rattle.labels.proofs.MovedGroups.{Carry, undo, cell-column, cell-row, column-lt, row-lt, moved-groups}
 use Rattle.regions.proofs.Boxes.{highest-le}
-use Rattle.regions.proofs.MovedBox.{lowest-lower, highest-upper, Pair, group, group-self, move-pair, group-ink}
-use Rattle.regions.proofs.Order.{cellOf, cell-of, sized, renumber, renumber-is, renumber-lt, renumber-back, moved-sized}
-use Rattle.regions.proofs.Moving.{cellTo, cell-to}
-use Rattle.regions.proofs.Pictures.{grid-of, picture-carry, cell-ink-of, wide-cells, high-cells, ink-inside}
-use Rattle.regions.proofs.Kept.{Anew, Untied, At, kept-at, many-same, kept-same, kept-anew}
+use Rattle.regions.proofs.MovedBox.{lowest-lower, highest-upper, Pair, group, group-self, move-pair}
+use Rattle.labels.proofs.Order.{cellOf, cell-of, sized, renumber, renumber-is, renumber-lt, renumber-back, moved-sized}
+use Rattle.labels.proofs.Moving.{cellTo, cell-to}
+use Rattle.labels.proofs.Pictures.{grid-of, picture-carry, cell-ink-of, wide-cells, high-cells, ink-inside}
+use Rattle.regions.proofs.Kept.{Anew, Untied, kept-at, many-same, kept-same, kept-anew}
 use Rattle.regions.proofs.BoxMoves.{boxBy, box-pair, box-place, box≡, finerBox, box-finer}
 
 -- ---- a kept region of any picture: so many are large enough, and the region has a cell
@@ -89,10 +92,10 @@ module _ (m : Move) (W H : ℕ) (posW : 0 < W) (posH : 0 < H) (p p′ : Plane)
   abbrev n′ : ℕ
   n′ = cellsOf w′ h′
 
-  abbrev g : Grid ink (near a) n
+  abbrev g : NearGrid ink (near a) n
   g = grid-of p w h
 
-  abbrev g′ : Grid ink′ (near (cells8 w′)) n′
+  abbrev g′ : NearGrid ink′ (near (cells8 w′)) n′
   g′ = grid-of p′ w′ h′
 
   abbrev f : ℕ → ℕ

@@ -1,4 +1,4 @@
--- The loops that clear the counters (Cleared) and count the labels (Tallied). Assumes nothing.
+-- The loop that counts the labels (Tallied). Assumes nothing.
 use mathlib.Core.List.{List}
 use mathlib.Core.Logic.{⊎-elim}
 use mathlib.Core.Path.{_∙_, _≡_, ap, refl, sym}
@@ -7,29 +7,13 @@ use native.Mathlib.Decide.{ℕ-discrete}
 use native.Mathlib.Numerals.{add-one}
 use native.Mathlib.Omega.{arith}
 use lib.Dec.{eqb}
-use lib.ListN.{getD, getD-replicate, length, length-replicate, length-set, set}
+use lib.ListN.{getD, getD-replicate, length, length-replicate, set}
 use borrow.Author.Tests.{eq-eqb, ne-eqb}
 use Rattle.laws.proofs.Counts.{count-no, count-yes}
-use Rattle.laws.proofs.Writes.{at-set, is-zeros}
+use Rattle.laws.proofs.Writes.{at-set}
 use Rattle.laws.specs.Count.{count}
 use Rattle.laws.specs.Lent.{zeros}
-use Rattle.regions.specs.Listed.{Bumped, sizeIn}
-
-pub record Cleared (l₀ l : List ℕ) (k : ℕ) : Type 0 where
-  pub size : length l ≡ length l₀
-  pub cleared : (i : ℕ) → i < k → getD l i 0 ≡ 0
-
-pub cleared-turn : {l₀ l : List ℕ} {k : ℕ} → Cleared l₀ l k → k < length l → Cleared l₀ (set l k 0) (k + 1)
-cleared-turn {l₀} {l} {k} q h = record {
-  size = length-set l k 0 ∙ q .size;
-  cleared = λ i b. ⊎-elim (λ p. p .1) (λ p. p .1 ∙ q .cleared i (less i b (p .0))) (at-set l k 0 i h);
-}
-  where
-    less : (i : ℕ) → i < k + 1 → (i ≡ k → ⊥) → i < k
-    less i b n = omega arith
-
-pub cleared-end : {l₀ l : List ℕ} {k : ℕ} → Cleared l₀ l k → length l ≤ k → l ≡ zeros l₀
-cleared-end {l₀} {l} q all = is-zeros l₀ l (q .size) (λ i b. q .cleared i (omega arith))
+use Rattle.regions.specs.Inner.{Bumped, sizeIn}
 
 pub bumped-none : (l : List ℕ) (x : ℕ) → x ≡ 0 → Bumped x l l
 bumped-none l x e = record { yes = λ i h p. absurd (omega arith); no = λ i h p. refl }

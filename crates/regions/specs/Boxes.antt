@@ -1,10 +1,10 @@
--- The box of a region, as document 01 has it under "Region". Definitions only. Assumes nothing.
+-- The box of a region, by rules 14 and 15. Definitions only. Assumes nothing.
 use mathlib.Core.Bool.{Bool, cond}
 use Prim.Native.Nat.{ℕ, zero, suc, _+_, _*_, _/_, _%_, min, max}
 use lib.Dec.{eqb}
 use Rattle.laws.specs.Plane.{Plane}
 use Rattle.laws.specs.Move.{Box}
-use Rattle.regions.specs.Cells.{cells8, cellsOf, cellLabel}
+use Rattle.labels.specs.Cells.{cells8, cellsOf, cellLabel}
 
 -- The least value of `f` at the numbers below `k` that meet `p`, and `d` where that is less; one more than the greatest, and 0 where none
 -- meets it.

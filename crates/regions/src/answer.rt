@@ -1,4 +1,4 @@
-// What the picture door answers.
+// Regions, and those of a picture that are kept.
 
 // A region: its label, how many region cells it has, and its box in pixels. The box has its left
 // and top pixels; right and bottom are one past the last, and at most the picture's sides.
@@ -17,10 +17,4 @@ pub struct Kept {
     pub all: usize,
     pub kept: usize,
     pub list: [Region; 4],
-}
-
-// The answer of the picture door: 0 and the regions, or the number of a refusal, 1 to 4, and none.
-pub struct PictureAnswer {
-    pub refused: u32,
-    pub regions: Kept,
 }

@@ -1,10 +1,10 @@
 // The groups that are kept: at least 16 cells, the first four by count, equal counts by lower
 // label. Each is the first behind the one before it, found in one pass over the counters.
 ghost use mathlib.Core.Path.{_≡_};
-ghost use Prim.Native.Nat.{_<_, _≤_};
+ghost use Prim.Native.Nat.{_<_};
 ghost use lib.ListN.{length};
 ghost use Rattle.regions.specs.Kept.{aheadBy};
-ghost use Rattle.regions.specs.Listed.{behind, beats, Turn, Found, Picked};
+ghost use Rattle.regions.specs.Inner.{behind, beats, Turn, FoundBehind, Picked};
 
 // Whether a group `a` of `x` cells comes before a group `b` of `y` cells.
 fn ahead(x: u32, a: usize, y: u32, b: usize) -> bool
@@ -58,7 +58,7 @@ fn better(sizes: &[u32], p: usize, a: usize, b: usize) -> usize
 
 // The first group that is kept behind `p`, and the number of groups where there is none.
 fn first_behind(sizes: &[u32], p: usize) -> usize
-    ensures { λ r. ⌜ Found (now (sizes .entry)) p r ⌝ }
+    ensures { λ r. ⌜ FoundBehind (now (sizes .entry)) p r ⌝ }
 {
     let mut a = sizes.len();
     let mut b = 0;

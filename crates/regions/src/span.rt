@@ -1,9 +1,8 @@
 // The box of a label, in cells.
 ghost use mathlib.Core.Path.{_≡_};
-ghost use mathlib.Core.Bool.{true, false};
-ghost use Prim.Native.Nat.{_+_, _<_, _≤_, min, max};
+ghost use Prim.Native.Nat.{_+_, _<_, min, max};
 ghost use lib.ListN.{length};
-ghost use Rattle.regions.specs.Listed.{Cells, Boxed, Small, Grown};
+ghost use Rattle.regions.specs.Inner.{Cells, LabelBoxed, BoxSmall, Grown};
 
 // A box in cells: right and bottom are one past the last.
 pub struct Span {
@@ -45,9 +44,9 @@ fn grown(b: Span, is: bool, x: usize, y: usize) -> Span
 // The box in cells of the label `l`, in a grid of `h` rows of `w` cells.
 pub(crate) fn span_of(labels: &[u32], l: u32, w: usize, h: usize) -> Span
     requires { ⌜ Cells (now labels) w h ⌝ }
-    ensures { λ r. ⌜ Small w h (r .x0) (r .y0) (r .x1) (r .y1) ⌝ }
-    ensures { λ r. ⌜
-        Boxed (now (labels .entry)) l w h (length (now (labels .entry))) (r .x0) (r .y0) (r .x1)
+    ensures x0 { λ r. ⌜ BoxSmall w h (r .x0) (r .y0) (r .x1) (r .y1) ⌝ }
+    ensures boxed { λ r. ⌜
+        LabelBoxed (now (labels .entry)) l w h (length (now (labels .entry))) (r .x0) (r .y0) (r .x1)
         (r .y1) ⌝ }
 {
     let mut b = Span {

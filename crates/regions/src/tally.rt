@@ -1,20 +1,9 @@
 // Cells counted by label.
+use labels::clearing::clear;
 ghost use mathlib.Core.Path.{_≡_};
 ghost use Prim.Native.Nat.{ℕ, _<_, _≤_};
 ghost use lib.ListN.{length, getD};
-ghost use Rattle.laws.specs.Lent.{zeros};
-ghost use Rattle.regions.specs.Listed.{sizeIn, Bumped};
-
-// Puts 0 into every place of a list.
-pub fn clear(list: &mut [u32])
-    ensures { λ _. ⌜ now (list .exit) ≡ zeros (now (list .entry)) ⌝ }
-{
-    let mut i = 0;
-    while i < list.len() {
-        list[i] = 0;
-        i += 1;
-    }
-}
+ghost use Rattle.regions.specs.Inner.{sizeIn, Bumped};
 
 // One more for the label `x`, unless that is 0.
 fn bump(sizes: &mut [u32], x: u32)

@@ -2,7 +2,7 @@
 ghost use mathlib.Core.Path.{_≡_};
 ghost use Prim.Native.Nat.{ℕ, _<_, _≤_};
 ghost use lib.ListN.{length, getD};
-ghost use Rattle.regions.specs.Listed.{Cells, sizeIn, regionIn, keptIn};
+ghost use Rattle.regions.specs.Inner.{Cells, sizeIn, regionIn, keptIn};
 use crate::answer::Kept;
 use crate::answer::Region;
 use crate::pick::pick;

@@ -2,7 +2,7 @@
 --     front      the first n places of a list that has them are n
 --     refilled   the array with its first n places filled again has them
 -- Assumes nothing.
-use mathlib.Core.Path.{_≡_, sym}
+use mathlib.Core.Path.{_≡_}
 use mathlib.Core.List.{List, _++_}
 use Prim.Native.Nat.{ℕ, _≤_}
 use native.Mathlib.Omega.{arith}

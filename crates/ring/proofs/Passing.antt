@@ -6,25 +6,23 @@
 use mathlib.Core.Path.{_≡_, refl, sym, ap, _∙_}
 use mathlib.Core.Bool.{Bool, true, false, _&&_}
 use mathlib.Core.List.{List}
-use Prim.Native.Nat.{ℕ, zero, suc, _+_, _-_, _*_, _%_, _≤_, _<_}
+use Prim.Native.Nat.{ℕ, zero, suc, _+_, _-_, _*_, _≤_, _<_}
 use native.Mathlib.Nat.{sub-zero}
-use native.Mathlib.Omega.{arith}
 use borrow.Author.Tests.{leb-true, eqb-true}
 use lib.Dec.{leb, eqb}
 use lib.ListN.{length, getD}
 use lib.Ieee.{Float, nan}
 use Rattle.laws.proofs.Bools.{and-left, and-right}
 use Rattle.laws.proofs.Steps.{one-less, none-left}
-use Rattle.checks.specs.Picture.{isSide}
-use Rattle.checks.specs.Points.{isPoints}
-use Rattle.checks.proofs.Checked.{check-step, side-in, points-in}
+use Rattle.picture_checks.specs.Picture.{isSide}
+use Rattle.picture_checks.specs.Points.{isPoints}
+use Rattle.picture_checks.proofs.Checked.{check-step, side-in, points-in}
 use Rattle.lcr_core.specs.Version.{isVersion}
 use Rattle.search.specs.Samples.{Photo}
 use Rattle.ring.specs.Checks.{hasRoom, coordinateOf, coordinatesOn, coordinatesOf, checkRing}
 use Rattle.ring.specs.Trace.{shortTrace, attemptOf}
 use Rattle.ring.specs.Door.{answerBy, answerOf}
 use Rattle.ring.specs.declared.quads.Trace.{Trace}
-use Rattle.ring.specs.declared.door.Answer.{Answer}
 use Rattle.ring.specs.declared.door.Outcome.the-variants.{Given, Refused}
 
 -- ---- the coordinates

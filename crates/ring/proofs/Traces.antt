@@ -12,7 +12,8 @@ use mathlib.Core.List.{List}
 use Prim.Native.Nat.{ℕ, _*_, _≤_}
 use lib.Ieee.{Float, lt, eq}
 use lib.ListN.{length, take}
-use Rattle.hull.specs.Points.{0f, many}
+use Rattle.ieee.specs.Constants.{0f}
+use Rattle.hull.specs.Points.{many}
 use Rattle.hull.specs.Hull.{hullOf}
 use Rattle.hull.specs.declared.points.Point.{Point}
 use Rattle.hull.specs.declared.points.Quad.{Quad}
@@ -26,29 +27,11 @@ use Rattle.fit.proofs.Selects.{kept-front}
 use Rattle.lens.specs.Straight.{straightOf}
 use Rattle.lens.specs.Estimate.{hullQuad, lensOf}
 use Rattle.lens.specs.declared.straight.Lens.{Lens}
-use Rattle.search.specs.Versions.{searchOf, startOf}
+use Rattle.search.specs.Versions.{searchOf, noneTried}
 use Rattle.search.specs.declared.versions.Scores.{Scores}
 use Rattle.search.specs.declared.versions.Search.{Search}
-use Rattle.search.specs.declared.versions.Goal.{Goal}
 use Rattle.accept.specs.Accept.{acceptOf}
-use Rattle.ring.specs.Trace.{
-  spanOf,
-  isFixed,
-  fallbackOf,
-  traceBy,
-  goalOf,
-  quadTrace,
-  topOf,
-  betterOf,
-  firstOf,
-  triedOf,
-  shortTrace,
-  foundOf,
-  underLens,
-  middleOf,
-  lensTrace,
-  attemptOf,
-}
+use Rattle.ring.specs.Trace.{spanOf, isFixed, fallbackOf, traceBy, quadTrace, topOf, betterOf, firstOf, bothQuads, shortTrace, foundOf, underLens, pictureMiddle, lensTrace, attemptOf}
 use Rattle.accept.specs.declared.Fix.{Fix}
 use Rattle.accept.specs.declared.Fixed.{Fixed}
 use Rattle.accept.specs.declared.Fixed.the-variants.{At, NoFix}
@@ -120,23 +103,23 @@ module _ (gray : List ℕ) (w h : ℕ) (edges : Corners) (r : Quad) (l : Lens) (
   abbrev alone : Quad → Trace
   alone q = quadTrace gray w h q l hull most
 
-  pub tried-one : (z : Trace) → edges ≡ NoQuad → z ≡ alone r → z ≡ triedOf gray w h edges r l hull most
-  unfolding triedOf
-  tried-one z e ez = ez ∙ sym (ap (λ (c : Corners). triedOf gray w h c r l hull most) e)
+  pub tried-one : (z : Trace) → edges ≡ NoQuad → z ≡ alone r → z ≡ bothQuads gray w h edges r l hull most
+  unfolding bothQuads
+  tried-one z e ez = ez ∙ sym (ap (λ (c : Corners). bothQuads gray w h c r l hull most) e)
 
   module _ {q : Quad} (some : edges ≡ Found q) (b : Bool) (eb : b ≡ sameOf q r 3f) where
     abbrev ways : Bool → Trace
     ways b = cond b (alone r) (firstOf (alone q) (alone r))
 
-    tried-by : (c : Bool) → b ≡ c → ways c ≡ triedOf gray w h edges r l hull most
-    unfolding triedOf
-    tried-by c e = ap ways (sym e ∙ eb) ∙ sym (ap (λ (c : Corners). triedOf gray w h c r l hull most) some)
+    tried-by : (c : Bool) → b ≡ c → ways c ≡ bothQuads gray w h edges r l hull most
+    unfolding bothQuads
+    tried-by c e = ap ways (sym e ∙ eb) ∙ sym (ap (λ (c : Corners). bothQuads gray w h c r l hull most) some)
 
-    pub tried-same : (z : Trace) → b ≡ true → z ≡ alone r → z ≡ triedOf gray w h edges r l hull most
+    pub tried-same : (z : Trace) → b ≡ true → z ≡ alone r → z ≡ bothQuads gray w h edges r l hull most
     tried-same z e ez = ez ∙ tried-by true e
 
     module _ (apart : b ≡ false) (t : Trace) (et : t ≡ alone q) (f : Bool) (ef : f ≡ isFixed (t .fix)) where
-      first-by : (c : Bool) (u : Trace) → f ≡ c → u ≡ alone r → cond c t (betterOf t u) ≡ triedOf gray w h edges r l hull most
+      first-by : (c : Bool) (u : Trace) → f ≡ c → u ≡ alone r → cond c t (betterOf t u) ≡ bothQuads gray w h edges r l hull most
       unfolding firstOf
       first-by c u e eu =
           ap (λ (c : Bool). cond c t (betterOf t u)) (sym e ∙ ef)
@@ -144,14 +127,14 @@ module _ (gray : List ℕ) (w h : ℕ) (edges : Corners) (r : Quad) (l : Lens) (
           ∙ ap (λ (t : Trace). firstOf t (alone r)) et
           ∙ tried-by false apart
 
-      pub tried-first : f ≡ true → t ≡ triedOf gray w h edges r l hull most
+      pub tried-first : f ≡ true → t ≡ bothQuads gray w h edges r l hull most
       tried-first e = first-by true (alone r) e refl
 
-      pub tried-both : (u z : Trace) → f ≡ false → u ≡ alone r → z ≡ betterOf t u → z ≡ triedOf gray w h edges r l hull most
+      pub tried-both : (u z : Trace) → f ≡ false → u ≡ alone r → z ≡ betterOf t u → z ≡ bothQuads gray w h edges r l hull most
       tried-both u z e eu ez = ez ∙ first-by false u e eu
 
 -- ---- the attempt
-pub short-is : (hull : ℕ) (s : Search) → s ≡ startOf
+pub short-is : (hull : ℕ) (s : Search) → s ≡ noneTried
     → record { hull = hull; quad = NoQuad; scores = s .scores; fix = NoFix; fallback = NoFix } ≡ shortTrace hull
 unfolding shortTrace
 short-is hull s e =
@@ -163,12 +146,12 @@ module _ (gray : List ℕ) (w h : ℕ) (s : List Float) (hull : ℕ) (c : Corner
   found-none r e er = er ∙ sym (ap (λ (c : Corners). foundOf gray w h s hull c l most) e)
 
   pub found-some : {q : Quad} (edges : Corners) (refined : Quad) (r : Trace) → c ≡ Found q → refined ≡ refinedOf s q → edges ≡ edgeQuad s q
-      → r ≡ triedOf gray w h edges refined l hull most → r ≡ foundOf gray w h s hull c l most
+      → r ≡ bothQuads gray w h edges refined l hull most → r ≡ foundOf gray w h s hull c l most
   unfolding foundOf
   found-some {q} edges refined r e en ee er =
       er
-      ∙ ap (λ (c : Corners). triedOf gray w h c refined l hull most) ee
-      ∙ ap (λ (z : Quad). triedOf gray w h (edgeQuad s q) z l hull most) en
+      ∙ ap (λ (c : Corners). bothQuads gray w h c refined l hull most) ee
+      ∙ ap (λ (z : Quad). bothQuads gray w h (edgeQuad s q) z l hull most) en
       ∙ sym (ap (λ (c : Corners). foundOf gray w h s hull c l most) e)
 
 module _ (gray : List ℕ) (w h : ℕ) (s : List Float) (l : Lens) (most : ℕ) where
@@ -193,7 +176,7 @@ module _ (gray : List ℕ) (w h : ℕ) (s : List Float) (l : Lens) (most : ℕ) 
   lens-straight r e kept er = er ∙ ap (λ (z : List Float). underLens gray w h z l most) (kept-front kept) ∙ lens-by false e
 
 pub attempt-is : (gray : List ℕ) (w h : ℕ) (s : List Float) (most : ℕ) (c : Corners) (m : Point) (l : Lens) (r : Trace) → c ≡ hullQuad s
-    → m ≡ middleOf w h → l ≡ lensOf s c m → r ≡ lensTrace gray w h s l most → r ≡ attemptOf gray w h s most
+    → m ≡ pictureMiddle w h → l ≡ lensOf s c m → r ≡ lensTrace gray w h s l most → r ≡ attemptOf gray w h s most
 unfolding attemptOf
 attempt-is gray w h s most c m l r ec em el er =
     er

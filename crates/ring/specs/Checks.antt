@@ -1,4 +1,4 @@
--- The ring door's checks, as document 01's table has them. Definitions only. Assumes nothing.
+-- The ring door's checks, in order. Definitions only. Assumes nothing.
 use Prim.Native.Nat.{ℕ, zero, suc, _+_}
 use mathlib.Core.Bool.{Bool, true, _&&_}
 use mathlib.Core.List.{List}
@@ -6,8 +6,8 @@ use lib.Dec.{leb}
 use lib.Ieee.{Float, nan, binary32, le, ofBits}
 use lib.ListN.{length, getD}
 use Rattle.laws.specs.Check.{orRefuse}
-use Rattle.checks.specs.Picture.{checkPicture}
-use Rattle.checks.specs.Points.{isPoints}
+use Rattle.picture_checks.specs.Picture.{checkPicture}
+use Rattle.picture_checks.specs.Points.{isPoints}
 use Rattle.ieee.specs.Ops.{abs, finite}
 use Rattle.lcr_core.specs.Version.{isVersion}
 

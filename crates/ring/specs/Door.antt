@@ -1,4 +1,4 @@
--- The ring door's answer, as document 01 has it under "Trace" and "Doors and their checks". Definitions only. Assumes nothing.
+-- The ring door's answer, by rules 33 to 36. Definitions only. Assumes nothing.
 use Prim.Native.Nat.{ℕ, zero, suc}
 use mathlib.Core.List.{List}
 use lib.Ieee.{Float}

@@ -1,4 +1,4 @@
--- What an attempt looks at and finds, as document 01 has it under "Trace" and ring.rs in `correlate_quad` and `attempt`. Definitions only.
+-- What an attempt looks at and finds, by rules 33 to 36 and ring.rs in `correlate_quad` and `attempt`. Definitions only.
 -- Assumes nothing.
 use Prim.Native.Nat.{ℕ}
 use mathlib.Core.Bool.{Bool, true, false, cond}
@@ -6,24 +6,24 @@ use mathlib.Core.List.{List}
 use lib.Ieee.{Float, binary32, lt, eq, ofBits}
 use lib.ListN.{length}
 use Rattle.ieee.specs.Root.{sqrt}
-use Rattle.hull.specs.Points.{0f, many}
+use Rattle.hull.specs.Points.{many}
 use Rattle.hull.specs.Hull.{hullOf}
 use Rattle.hull.specs.declared.points.Point.{Point}
 use Rattle.hull.specs.declared.points.Quad.{Quad}
 use Rattle.hull.specs.declared.points.Corners.{Corners}
 use Rattle.hull.specs.declared.points.Corners.the-variants.{Found, NoQuad}
-use Rattle.fit.specs.F32.{_⊕_, _⊘_, whole, 2f, 3f}
+use Rattle.fit.specs.F32.{_⊕_, _⊘_, wholeFloat, 3f}
+use Rattle.ieee.specs.Constants.{0f, 2f}
 use Rattle.fit.specs.Corner.{d2Of, refinedOf, sameOf}
 use Rattle.fit.specs.Consensus.{edgeQuad}
 use Rattle.fit.specs.Line.{pointOf}
 use Rattle.lens.specs.Straight.{straightOf}
 use Rattle.lens.specs.Estimate.{hullQuad, lensOf}
 use Rattle.lens.specs.declared.straight.Lens.{Lens}
-use Rattle.search.specs.Versions.{searchOf, startOf}
+use Rattle.search.specs.Versions.{searchOf, noneTried}
 use Rattle.search.specs.declared.versions.Scores.{Scores}
 use Rattle.search.specs.declared.versions.Goal.{Goal}
 use Rattle.accept.specs.Accept.{acceptOf, runnerOf}
-use Rattle.accept.specs.declared.Fix.{Fix}
 use Rattle.accept.specs.declared.Fixed.{Fixed}
 use Rattle.accept.specs.declared.Fixed.the-variants.{At, NoFix}
 use Rattle.ring.specs.declared.quads.Trace.{Trace}
@@ -80,20 +80,20 @@ unfoldable pub firstOf : Trace → Trace → Trace
 firstOf t u = cond (isFixed (t .fix)) t (betterOf t u)
 
 -- The edge quad is tried first, and only where it differs from the refined one by more than 3 at some corner, in x or y.
-unfoldable pub triedOf : List ℕ → ℕ → ℕ → Corners → Quad → Lens → ℕ → ℕ → Trace
-triedOf gray w h (Found e) r l hull most =
+unfoldable pub bothQuads : List ℕ → ℕ → ℕ → Corners → Quad → Lens → ℕ → ℕ → Trace
+bothQuads gray w h (Found e) r l hull most =
     cond (sameOf e r 3f) (quadTrace gray w h r l hull most)
     (firstOf (quadTrace gray w h e l hull most) (quadTrace gray w h r l hull most))
-triedOf gray w h NoQuad r l hull most = quadTrace gray w h r l hull most
+bothQuads gray w h NoQuad r l hull most = quadTrace gray w h r l hull most
 
 -- ---- the attempt
 -- The trace without a quad.
 unfoldable pub shortTrace : ℕ → Trace
-shortTrace hull = record { hull = hull; quad = NoQuad; scores = startOf .scores; fix = NoFix; fallback = NoFix }
+shortTrace hull = record { hull = hull; quad = NoQuad; scores = noneTried .scores; fix = NoFix; fallback = NoFix }
 
 -- The trace of points with their hull's length and quad: without a quad it ends there.
 unfoldable pub foundOf : List ℕ → ℕ → ℕ → List Float → ℕ → Corners → Lens → ℕ → Trace
-foundOf gray w h s hull (Found q) l most = triedOf gray w h (edgeQuad s q) (refinedOf s q) l hull most
+foundOf gray w h s hull (Found q) l most = bothQuads gray w h (edgeQuad s q) (refinedOf s q) l hull most
 foundOf gray w h s hull NoQuad l most = shortTrace hull
 
 -- The trace of points under a lens.
@@ -101,8 +101,8 @@ abbrev pub underLens : List ℕ → ℕ → ℕ → List Float → Lens → ℕ 
 underLens gray w h s l most = foundOf gray w h s (length (hullOf s (many s))) (hullQuad s) l most
 
 -- The picture's middle.
-unfoldable pub middleOf : ℕ → ℕ → Point
-middleOf w h = pointOf (whole w ⊘ 2f) (whole h ⊘ 2f)
+unfoldable pub pictureMiddle : ℕ → ℕ → Point
+pictureMiddle w h = pointOf (wholeFloat w ⊘ 2f) (wholeFloat h ⊘ 2f)
 
 -- The trace by the lens: of the points as they are where its coefficient is 0, else straightened.
 unfoldable pub lensTrace : List ℕ → ℕ → ℕ → List Float → Lens → ℕ → Trace
@@ -111,4 +111,4 @@ lensTrace gray w h s l most =
 
 -- The trace of a list of points.
 unfoldable pub attemptOf : List ℕ → ℕ → ℕ → List Float → ℕ → Trace
-attemptOf gray w h s most = lensTrace gray w h s (lensOf s (hullQuad s) (middleOf w h)) most
+attemptOf gray w h s most = lensTrace gray w h s (lensOf s (hullQuad s) (pictureMiddle w h)) most

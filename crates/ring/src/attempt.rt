@@ -14,7 +14,7 @@ ghost use Rattle.hull.specs.Hull.{hullOf};
 ghost use Rattle.laws.specs.Lent.{UntouchedPast};
 ghost use Rattle.lens.specs.Estimate.{hullQuad};
 ghost use Rattle.search.specs.Samples.{Photo};
-ghost use Rattle.ring.specs.Trace.{shortTrace, foundOf, underLens, middleOf, lensTrace};
+ghost use Rattle.ring.specs.Trace.{shortTrace, foundOf, underLens, pictureMiddle, lensTrace};
 ghost use Rattle.ring.specs.Trace.{attemptOf};
 
 // The trace without a quad.
@@ -49,11 +49,11 @@ fn found(
     requires { ⌜ length (now s) ≤ length (now cand) ⌝ }
     requires { ⌜ length (now s) ≤ length (now buf) ⌝ }
     requires { ⌜ length (now s) ≤ 32768 ⌝ }
-    ensures { λ r. ⌜ r ≡ foundOf (now (gray .entry)) w h (now (s .entry))
+    ensures answer { λ r. ⌜ r ≡ foundOf (now (gray .entry)) w h (now (s .entry))
         (o .hull) (o .quad) l most ⌝ }
-    ensures { λ r. ⌜ UntouchedPast (length (now (s .entry)))
+    ensures cand_past { λ r. ⌜ UntouchedPast (length (now (s .entry)))
         (now (cand .entry)) (now (cand .exit)) ⌝ }
-    ensures { λ r. ⌜ UntouchedPast (length (now (s .entry)))
+    ensures buf_past { λ r. ⌜ UntouchedPast (length (now (s .entry)))
         (now (buf .entry)) (now (buf .exit)) ⌝ }
 {
     let found = o.quad;
@@ -82,10 +82,10 @@ fn straightened(
     requires { ⌜ length (now s) ≤ length (now cand) ⌝ }
     requires { ⌜ length (now s) ≤ length (now buf) ⌝ }
     requires { ⌜ length (now s) ≤ 32768 ⌝ }
-    ensures { λ r. ⌜ r ≡ underLens (now (gray .entry)) w h (now (s .entry)) l most ⌝ }
-    ensures { λ r. ⌜ UntouchedPast (length (now (s .entry)))
+    ensures answer { λ r. ⌜ r ≡ underLens (now (gray .entry)) w h (now (s .entry)) l most ⌝ }
+    ensures cand_past { λ r. ⌜ UntouchedPast (length (now (s .entry)))
         (now (cand .entry)) (now (cand .exit)) ⌝ }
-    ensures { λ r. ⌜ UntouchedPast (length (now (s .entry)))
+    ensures buf_past { λ r. ⌜ UntouchedPast (length (now (s .entry)))
         (now (buf .entry)) (now (buf .exit)) ⌝ }
 {
     let o = lens::outer::outer_of(s, buf);
@@ -95,7 +95,7 @@ fn straightened(
 // The picture's middle, in pixels.
 fn middle(w: usize, h: usize) -> Point
     requires { ⌜ (w ≤ 4096) × (h ≤ 4096) ⌝ }
-    ensures { λ r. ⌜ r ≡ middleOf w h ⌝ }
+    ensures { λ r. ⌜ r ≡ pictureMiddle w h ⌝ }
 {
     Point {
         x: w as f32 / 2.0,
@@ -124,12 +124,12 @@ fn by_lens(
     requires { ⌜ length (now s) ≤ 32768 ⌝ }
     requires { ⌜ o .hull ≡ length (hullOf (now s) (many (now s))) ⌝ }
     requires { ⌜ o .quad ≡ hullQuad (now s) ⌝ }
-    ensures { λ r. ⌜ r ≡ lensTrace (now (gray .entry)) w h (now (s .entry)) l most ⌝ }
-    ensures { λ r. ⌜ UntouchedPast (length (now (s .entry)))
+    ensures answer { λ r. ⌜ r ≡ lensTrace (now (gray .entry)) w h (now (s .entry)) l most ⌝ }
+    ensures straight_past { λ r. ⌜ UntouchedPast (length (now (s .entry)))
         (now (straight .entry)) (now (straight .exit)) ⌝ }
-    ensures { λ r. ⌜ UntouchedPast (length (now (s .entry)))
+    ensures cand_past { λ r. ⌜ UntouchedPast (length (now (s .entry)))
         (now (cand .entry)) (now (cand .exit)) ⌝ }
-    ensures { λ r. ⌜ UntouchedPast (length (now (s .entry)))
+    ensures buf_past { λ r. ⌜ UntouchedPast (length (now (s .entry)))
         (now (buf .entry)) (now (buf .exit)) ⌝ }
 {
     if l.k == 0.0 {
@@ -156,12 +156,12 @@ pub fn attempt(
     requires { ⌜ length (now s) ≤ length (now cand) ⌝ }
     requires { ⌜ length (now s) ≤ length (now buf) ⌝ }
     requires { ⌜ length (now s) ≤ 32768 ⌝ }
-    ensures { λ r. ⌜ r ≡ attemptOf (now (gray .entry)) w h (now (s .entry)) most ⌝ }
-    ensures { λ r. ⌜ UntouchedPast (length (now (s .entry)))
+    ensures answer { λ r. ⌜ r ≡ attemptOf (now (gray .entry)) w h (now (s .entry)) most ⌝ }
+    ensures straight_past { λ r. ⌜ UntouchedPast (length (now (s .entry)))
         (now (straight .entry)) (now (straight .exit)) ⌝ }
-    ensures { λ r. ⌜ UntouchedPast (length (now (s .entry)))
+    ensures cand_past { λ r. ⌜ UntouchedPast (length (now (s .entry)))
         (now (cand .entry)) (now (cand .exit)) ⌝ }
-    ensures { λ r. ⌜ UntouchedPast (length (now (s .entry)))
+    ensures buf_past { λ r. ⌜ UntouchedPast (length (now (s .entry)))
         (now (buf .entry)) (now (buf .exit)) ⌝ }
 {
     let o = lens::outer::outer_of(s, buf);

@@ -29,14 +29,14 @@ pub fn attempt(
     cand: &mut [f32],
     buf: &mut [f32],
 ) -> Answer
-    ensures { λ r. ⌜ r ≡ answerOf (now (gray .entry)) width height (now (points .entry)) most
+    ensures answer { λ r. ⌜ r ≡ answerOf (now (gray .entry)) width height (now (points .entry)) most
         (length (now (straight .entry))) (length (now (cand .entry)))
         (length (now (buf .entry))) ⌝ }
-    ensures { λ r. ⌜ UntouchedPast (neededOf (r .outcome) (now (points .entry)))
+    ensures straight_past { λ r. ⌜ UntouchedPast (neededOf (r .outcome) (now (points .entry)))
         (now (straight .entry)) (now (straight .exit)) ⌝ }
-    ensures { λ r. ⌜ UntouchedPast (neededOf (r .outcome) (now (points .entry)))
+    ensures cand_past { λ r. ⌜ UntouchedPast (neededOf (r .outcome) (now (points .entry)))
         (now (cand .entry)) (now (cand .exit)) ⌝ }
-    ensures { λ r. ⌜ UntouchedPast (neededOf (r .outcome) (now (points .entry)))
+    ensures buf_past { λ r. ⌜ UntouchedPast (neededOf (r .outcome) (now (points .entry)))
         (now (buf .entry)) (now (buf .exit)) ⌝ }
 {
     let a = straight.len();

@@ -10,7 +10,7 @@ ghost use mathlib.Core.Path.{_≡_};
 ghost use Prim.Native.Nat.{_≤_};
 ghost use Rattle.search.specs.Samples.{Photo};
 ghost use Rattle.ring.specs.Trace.{spanOf, isFixed, fallbackOf, traceBy, quadTrace, topOf};
-ghost use Rattle.ring.specs.Trace.{betterOf, triedOf};
+ghost use Rattle.ring.specs.Trace.{betterOf, bothQuads};
 
 // What an attempt looked at and found.
 pub struct Trace {
@@ -76,8 +76,8 @@ fn trace_by(q: Quad, l: Lens, hull: usize, s: Scores) -> Trace
 fn correlate_quad(gray: &[u8], w: usize, h: usize, q: Quad, l: Lens, hull: usize, most: u8) -> Trace
     requires { ⌜ Photo (now gray) w h ⌝ }
     requires { ⌜ most ≤ 64 ⌝ }
-    ensures { λ r. ⌜ r ≡ quadTrace (now (gray .entry)) w h q l hull most ⌝ }
-    ensures { λ r. ⌜ r .scores .many ≤ 64 ⌝ }
+    ensures answer { λ r. ⌜ r ≡ quadTrace (now (gray .entry)) w h q l hull most ⌝ }
+    ensures bounds { λ r. ⌜ r .scores .many ≤ 64 ⌝ }
 {
     let g = Goal {
         quad: q,
@@ -129,7 +129,7 @@ pub(crate) fn try_quads(
 ) -> Trace
     requires { ⌜ Photo (now gray) w h ⌝ }
     requires { ⌜ most ≤ 64 ⌝ }
-    ensures { λ r. ⌜ r ≡ triedOf (now (gray .entry)) w h edges refined l hull most ⌝ }
+    ensures { λ r. ⌜ r ≡ bothQuads (now (gray .entry)) w h edges refined l hull most ⌝ }
 {
     let Corners::Found(e) = edges else {
         return correlate_quad(gray, w, h, refined, l, hull, most);

@@ -1,10 +1,9 @@
-// The ring door's checks, in document 01's order: 1, 2, 6, 3, 7, 8. 0 is none of them.
-use checks::check_picture;
-use checks::is_points;
+// The ring door's checks, in order: 1, 2, 6, 3, 7, 8. 0 is none of them.
 use lcr_core::version::Version;
 use lcr_core::version::VersionAnswer;
+use picture_checks::check_picture;
+use picture_checks::is_points;
 ghost use mathlib.Core.Path.{_≡_};
-ghost use lib.ListN.{length};
 ghost use Rattle.lcr_core.specs.Version.{isVersion};
 ghost use Rattle.ring.specs.Checks.{hasRoom, coordinateOf, coordinatesOf};
 ghost use Rattle.ring.specs.Checks.{checkPoints, checkRing};

@@ -6,14 +6,14 @@ use mathlib.Core.Path.{_≡_, refl, sym, ap, _∙_}
 use mathlib.Core.Bool.{Bool, true, false}
 use mathlib.Core.List.{List}
 use mathlib.Core.Logic.{⊎-elim}
-use Prim.Native.Nat.{ℕ, zero, suc, _+_, _≤_, _<_}
+use Prim.Native.Nat.{ℕ, zero, suc, _+_, _≤_}
 use native.Mathlib.Omega.{arith}
 use Rattle.laws.proofs.Bools.{le-or-lt}
 use Rattle.lcr_core.specs.Version.{sideOf}
 use Rattle.transform.specs.declared.Mapped.{Mapped}
 use Rattle.transform.specs.declared.Mapped.the-variants.{None, Some}
 use Rattle.search.specs.Geometry.{transformOf}
-use Rattle.search.specs.Versions.{startOf, tooSmall, endedOf, scoredOf, stepOf, stepsOn}
+use Rattle.search.specs.Versions.{noneTried, tooSmall, endedOf, scoredOf, stepOf, stepsOn}
 use Rattle.search.specs.Claims.{SearchEnds}
 use Rattle.search.specs.declared.versions.Search.{Search}
 use Rattle.search.specs.declared.versions.Goal.{Goal}
@@ -71,5 +71,5 @@ module _ (gray : List ℕ) (w h : ℕ) where
     steps-ended (suc d) k s open′ within more = turn d k (steps-ended d (k + 1)) s open′ more
 
 pub search-ends : SearchEnds
-unfolding startOf SearchEnds
-search-ends gray w h g few = steps-ended gray w h g 65 0 startOf refl (omega arith) (omega arith)
+unfolding noneTried SearchEnds
+search-ends gray w h g few = steps-ended gray w h g 65 0 noneTried refl (omega arith) (omega arith)

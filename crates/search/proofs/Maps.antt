@@ -5,25 +5,25 @@
 --   marked, marked-long       marks written by `classify`, and as many as lumas
 --   front-room, front-long, pose-is   the marks at the beginning of a longer list, and their pose
 use mathlib.Core.Path.{_≡_, refl, sym, ap, _∙_, subst}
-use mathlib.Core.Bool.{Bool, true, false, cond, _&&_}
+use mathlib.Core.Bool.{Bool, true, false, cond}
 use mathlib.Core.List.{List, _++_}
-use Prim.Native.Nat.{ℕ, _+_, _≤_, _<_}
+use Prim.Native.Nat.{ℕ, _≤_, _<_}
 use native.Mathlib.Omega.{arith}
-use borrow.Author.Tests.{eq-eqb, le-leb}
-use lib.IntN.{ℤ}
-use lib.Dec.{eqb, leb}
+use borrow.Author.Tests.{eq-eqb}
+use lib.Dec.{eqb}
 use lib.Ieee.{Float, eq}
-use lib.ListN.{length, take, drop, length-append}
+use lib.ListN.{length, take, length-append}
 use lib.Seq.{take-at}
 use mir.Syntax.{w32}
 use mir.Val.{toZ, ofZ}
-use Rattle.laws.proofs.Bools.{both}
+use Rattle.ieee.specs.Constants.{0f}
+use Rattle.lcr_core.proofs.Versions.{version-passes}
 use Rattle.transform.specs.Mapping.{fromQuad, withRadial}
 use Rattle.transform.specs.declared.Transform.{Transform}
 use Rattle.transform.specs.declared.Mapped.{Mapped}
 use Rattle.transform.specs.declared.Mapped.the-variants.{None, Some}
-use Rattle.lcr_core.specs.Version.{IsVersion, isVersion, positionsOf}
-use Rattle.lcr_core.specs.Border.{placeOf, innerCell}
+use Rattle.lcr_core.specs.Version.{IsVersion, positionsOf}
+use Rattle.lcr_core.specs.Border.{positionAt, innerCell}
 use Rattle.laws.specs.Check.{orRefuse}
 use Rattle.lcr_core.specs.declared.border.Cell.{Cell}
 use Rattle.lcr_core.specs.declared.border.Place.{Place}
@@ -35,7 +35,6 @@ use Rattle.marks.specs.declared.classify.Classified.the-variants as classified
 use Rattle.marks.specs.declared.correlate.Best.{Best}
 use Rattle.marks.specs.declared.correlate.Best.the-variants as best
 use Rattle.marks.proofs.MarkLists.{marks-length}
-use Rattle.hull.specs.Points.{0f}
 use Rattle.hull.specs.declared.points.Quad.{Quad}
 use Rattle.lens.specs.declared.straight.Lens.{Lens}
 use Rattle.search.specs.Geometry.{ringNumbers, cornerNumbers, lensed, lensedMap, transformOf}
@@ -72,18 +71,15 @@ module _ (q : Quad) (side : ℕ) (l : Lens) (a b : List Float) (m : Mapped) (ea 
 
 -- ---- the position of an inner cell
 pub place-back : (v p : ℕ) (cell : Cell) (place : Place) → v < 256 → cell ≡ innerCell v p
-    → place ≡ placeOf v (toZ w32 (ofZ w32 (cell .x))) (toZ w32 (ofZ w32 (cell .y)))
-    → place ≡ placeOf v (innerCell v p .x) (innerCell v p .y)
+    → place ≡ positionAt v (toZ w32 (ofZ w32 (cell .x))) (toZ w32 (ofZ w32 (cell .y)))
+    → place ≡ positionAt v (innerCell v p .x) (innerCell v p .y)
 place-back v p cell place few ec ep =
     let near : NearCell cell = subst NearCell (sym ec) (inner-near v p few) in
     ep
     ∙ place-at v v (cell .x) (cell .y) refl (near .across) (near .down)
-    ∙ ap (λ (c : Cell). placeOf v (c .x) (c .y)) ec
+    ∙ ap (λ (c : Cell). positionAt v (c .x) (c .y)) ec
 
 -- ---- marks and their pose
-is-version : (v : ℕ) → IsVersion v → isVersion v ≡ true
-is-version v i = both (leb 1 v) (leb v 64) (le-leb 1 v (i .least)) (le-leb v 64 (i .greatest))
-
 module _ (v : ℕ) (lumas : List Float) (i : IsVersion v) (long : length lumas ≡ positionsOf v) where
   pub marked : (old new : List Bool) (r : Classified) → length old ≡ length lumas → r ≡ classifyAnswer v lumas old
       → new ≡ marksAfter r lumas old → new ≡ lights lumas
@@ -94,7 +90,7 @@ module _ (v : ℕ) (lumas : List Float) (i : IsVersion v) (long : length lumas �
       (er
       ∙ ap (λ (b : Bool). orRefuse b (classified.Refused 8)
       (orRefuse (eqb (length lumas) (positionsOf v)) (classified.Refused 11)
-      (orRefuse (eqb (length old) (positionsOf v)) (classified.Refused 11) classified.Done))) (is-version v i)
+      (orRefuse (eqb (length old) (positionsOf v)) (classified.Refused 11) classified.Done))) (version-passes v i)
       ∙ ap (λ (b : Bool). orRefuse b (classified.Refused 11)
       (orRefuse (eqb (length old) (positionsOf v)) (classified.Refused 11) classified.Done)) (eq-eqb (length lumas) (positionsOf v) long)
       ∙ ap (λ (b : Bool). orRefuse b (classified.Refused 11) classified.Done) (eq-eqb (length old) (positionsOf v) e))
@@ -123,5 +119,5 @@ module _ (v : ℕ) (lumas : List Float) (i : IsVersion v) (long : length lumas �
         eb
         ∙ ap (correlateAnswer v) (front ∙ is)
         ∙ ap (λ (b : Bool). orRefuse b (best.Refused 8)
-        (orRefuse (eqb (length s) (positionsOf v)) (best.Refused 11) (markedPose v s))) (is-version v i)
+        (orRefuse (eqb (length s) (positionsOf v)) (best.Refused 11) (markedPose v s))) (version-passes v i)
         ∙ ap (λ (b : Bool). orRefuse b (best.Refused 11) (markedPose v s)) (eq-eqb (length s) (positionsOf v) (lights-long ∙ long))

@@ -1,15 +1,14 @@
 -- Places in the picture, and cells near it. Assumes nothing.
 --   cut-inside               a number that is not at or past n is cut to a whole number below n
---   within-pixels            a place in the picture is one of its bytes
+--   place-lt            a place in the picture is one of its bytes
 --   inside-x, -y             what a place that is not outside is
 --   near-coordinate          a small place's coordinate is in range
 --   outer-near, inner-near   the cells of a position are in range
 use mathlib.Core.Path.{_≡_, refl, sym, ap, _∙_, subst}
 use mathlib.Core.Bool.{Bool, true, false, cond, _&&_, _||_, true≢false}
 use mathlib.Core.Logic.{_⊎_, inl, inr}
-use mathlib.Core.List.{List}
-use Prim.Native.Nat.{ℕ, zero, suc, min, _+_, _-_, _*_, _/_, _%_, _^_, _≤_, _<_}
-use native.Mathlib.Nat.{mul-le-mul, mul-one, mul-right-comm, div-lt-iff-lt-mul}
+use Prim.Native.Nat.{ℕ, suc, min, _-_, _*_, _/_, _%_, _^_, _≤_, _<_}
+use native.Mathlib.Nat.{lt-of-mul-lt-mul-right, mul-one, mul-right-comm, div-lt-iff-lt-mul}
 use native.Mathlib.Omega.{arith}
 use borrow.Author.Tests.{ltb-false, eqb-false}
 use lib.IntN.{ℤ, pos, negsuc}
@@ -18,29 +17,17 @@ use lib.Ieee.{Float, nan, inf, fin, binary32, up, down, lt, le, eq, round, ofInt
 use lib.Ieee.Fits.{down-pos}
 use lib.Ieee.Exact.{HasValue}
 use lib.Ieee.Back.{round-whole}
-use lib.ListN.{length}
+use Rattle.ieee.specs.Constants.{0f}
+use Rattle.laws.proofs.Bools.{neither}
 use Rattle.ieee.proofs.Values.{lt-or-ge}
-use Rattle.fit.specs.F32.{whole}
-use Rattle.hull.specs.Points.{0f}
+use Rattle.fit.specs.F32.{wholeFloat}
 use Rattle.transform.specs.declared.Pixel.{Pixel}
 use Rattle.lcr_core.specs.Version.{positionsOf, quarterOf}
 use Rattle.lcr_core.specs.Border.{InRange, coordinate, outerX, outerY, inward, outerCell, innerCell}
 use Rattle.lcr_core.proofs.Cells.{places}
-use Rattle.search.specs.Samples.{Photo, NearCell, outside}
+use Rattle.search.specs.Samples.{NearCell, outside}
 
 -- ---- cut to a whole number
-scaled : (a b c : ℕ) → a * c < b * c → a < b
-scaled a b c h = go (lt-or-ge a b)
-  where
-    go : (a < b) ⊎ (b ≤ a) → a < b
-    go (inl l) = l
-    go (inr g) = let r : c ≤ c = omega arith in let z = mul-le-mul g r in absurd (omega arith)
-
-neither : (a b : Bool) → (a || b) ≡ false → (a ≡ false) × (b ≡ false)
-neither false false h = (refl, refl)
-neither false true h = absurd (true≢false h)
-neither true b h = absurd (true≢false h)
-
 and-true : (a : Bool) → (a && true) ≡ a
 and-true true = refl
 and-true false = refl
@@ -63,7 +50,7 @@ cut-lt n k m false d e es h l =
     let below : B < A = not-same A B (ltb-false A B (two .0)) (eqb-false A B (sym (and-true (eqb A B)) ∙ two .1)) in
     let same : A ≡ n * down e * down d =
     ap (λ (z : ℕ). z * down e) (sym (mul-one (k * up d)) ∙ h) ∙ mul-right-comm n (down d) (down e) in
-    div-lt-iff-lt-mul (down-pos e) .1 (scaled (m * up e) (n * down e) (down d) (subst (λ (z : ℕ). B < z) same below))
+    div-lt-iff-lt-mul (down-pos e) .1 (lt-of-mul-lt-mul-right (down d) {m = m * up e} {n = n * down e} (subst (λ (z : ℕ). B < z) same below))
 
 capped : (v w n : ℕ) → v < n → min v w < n
 capped v w n h = omega arith
@@ -78,32 +65,26 @@ cut-at n (fin t k d) (inf false) some h l = absurd (true≢false l)
 cut-at n (fin t k d) (fin true m e) some h l = some
 cut-at n (fin t k d) (fin false m e) some h l = capped (m * up e / down e) (2 ^ 32 - 1) n (cut-lt n k m t d e (h .0) (h .1) l)
 
-pub cut-inside : (n : ℕ) (x : Float) → 1 ≤ n → n ≤ 4096 → le (whole n) x ≡ false → toUnsigned 32 x < n
+pub cut-inside : (n : ℕ) (x : Float) → 1 ≤ n → n ≤ 4096 → le (wholeFloat n) x ≡ false → toUnsigned 32 x < n
 unfolding ofInt
 cut-inside n x some few l = cut-at n (round binary32 false n 1) x some (round-whole binary32 false n (omega arith)) l
 
 -- ---- a place that is not outside
 module _ (w h : ℕ) (p : Pixel) (inside : outside w h p ≡ false) where
-  tests : (lt (p .x) 0f ≡ false) × ((lt (p .y) 0f || (le (whole w) (p .x) || le (whole h) (p .y))) ≡ false)
+  tests : (lt (p .x) 0f ≡ false) × ((lt (p .y) 0f || (le (wholeFloat w) (p .x) || le (wholeFloat h) (p .y))) ≡ false)
   unfolding outside
-  tests = neither (lt (p .x) 0f) (lt (p .y) 0f || (le (whole w) (p .x) || le (whole h) (p .y))) inside
+  tests = neither (lt (p .x) 0f) (lt (p .y) 0f || (le (wholeFloat w) (p .x) || le (wholeFloat h) (p .y))) inside
 
-  sides : (le (whole w) (p .x) ≡ false) × (le (whole h) (p .y) ≡ false)
+  sides : (le (wholeFloat w) (p .x) ≡ false) × (le (wholeFloat h) (p .y) ≡ false)
   sides =
-      neither (le (whole w) (p .x)) (le (whole h) (p .y))
-      (neither (lt (p .y) 0f) (le (whole w) (p .x) || le (whole h) (p .y)) (tests .1) .1)
+      neither (le (wholeFloat w) (p .x)) (le (wholeFloat h) (p .y))
+      (neither (lt (p .y) 0f) (le (wholeFloat w) (p .x) || le (wholeFloat h) (p .y)) (tests .1) .1)
 
   pub inside-x : 1 ≤ w → w ≤ 4096 → toUnsigned 32 (p .x) < w
   inside-x some few = cut-inside w (p .x) some few (sides .0)
 
   pub inside-y : 1 ≤ h → h ≤ 4096 → toUnsigned 32 (p .y) < h
   inside-y some few = cut-inside h (p .y) some few (sides .1)
-
-pub within-pixels : (x y w h : ℕ) → x < w → y < h → y * w + x < w * h
-within-pixels x y w h a b =
-    let r : w ≤ w = omega arith in
-    let z : suc y * w ≤ h * w = mul-le-mul b r in
-    omega arith
 
 -- ---- cells
 near-by : (b : Bool) (m n : ℕ) → m < 32768 → n < 32768 → InRange (cond b (negsuc m) (pos n))

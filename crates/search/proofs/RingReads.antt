@@ -4,10 +4,9 @@
 --   lumas-long                           as many lumas as positions
 --   lumas-room, lumas-part, lumas-fit    the lumas at the beginning of a longer list
 --   read-is                              their pose as a score
-use mathlib.Core.Path.{_≡_, refl, sym, ap, _∙_, subst}
-use mathlib.Core.Bool.{Bool, true, false}
+use mathlib.Core.Path.{_≡_, refl, sym, ap, _∙_}
 use mathlib.Core.List.{List, [], _∷_, _++_}
-use Prim.Native.Nat.{ℕ, zero, suc, _+_, _≤_, _<_}
+use Prim.Native.Nat.{ℕ, zero, suc, _≤_}
 use native.Mathlib.Omega.{arith}
 use borrow.Author.Tests.{le-leb}
 use lib.Dec.{leb}
@@ -16,12 +15,12 @@ use lib.ListN.{length, take, length-append}
 use lib.Seq.{take-at}
 use Rattle.laws.proofs.Bools.{both, clash}
 use Rattle.transform.specs.declared.Transform.{Transform}
-use Rattle.lcr_core.specs.Version.{IsVersion, isVersion, versionAnswer, positionsOf}
+use Rattle.lcr_core.specs.Version.{IsVersion, versionAnswer, positionsOf}
 use Rattle.lcr_core.specs.declared.version.VersionAnswer.{VersionAnswer}
-use Rattle.lcr_core.specs.declared.version.VersionAnswer.the-variants.{Known, Refused}
+use Rattle.lcr_core.specs.declared.version.VersionAnswer.the-variants.{Refused}
 use Rattle.lcr_core.proofs.DoorLaws.{version-refused}
 use Rattle.marks.specs.declared.correlate.Best.{Best}
-use Rattle.search.specs.Lumas.{lumaAt, listed, lumasOf}
+use Rattle.search.specs.Lumas.{lumaAt, lumasListed, lumasOf}
 use Rattle.search.specs.Versions.{scoreBy, poseOf, readOf}
 use Rattle.search.specs.declared.versions.Score.{Score}
 
@@ -32,10 +31,10 @@ never-refused v n r i e f =
 pub room-for : (k v n m : ℕ) → k ≡ v → n ≡ positionsOf k → 1112 ≡ m → v ≤ 64 → n ≤ m
 room-for k v n m a b c d = omega arith
 
-listed-long : (n : ℕ) (f : ℕ → Float) → length (listed n f) ≡ n
-unfolding listed
+listed-long : (n : ℕ) (f : ℕ → Float) → length (lumasListed n f) ≡ n
+unfolding lumasListed
 listed-long zero f = refl
-listed-long (suc n) f = length-append (listed n f) (f n ∷ []) ∙ (let e = listed-long n f in omega arith)
+listed-long (suc n) f = length-append (lumasListed n f) (f n ∷ []) ∙ (let e = listed-long n f in omega arith)
 
 module _ (gray : List ℕ) (w h : ℕ) (t : Transform) (k : ℕ) where
   pub lumas-long : length (lumasOf gray w h t k) ≡ positionsOf k

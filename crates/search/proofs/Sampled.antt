@@ -16,34 +16,24 @@ use lib.Ieee.{Float, nan, binary32, lt, le, div, ofInt, ofBits, inFloat, toUnsig
 use lib.ListN.{length, getD}
 use mir.Syntax.{w32}
 use mir.Val.{toZ, ofZ}
-use Rattle.ieee.specs.Constants.{0·3, 0·7}
+use Rattle.laws.proofs.Planes.{place-lt}
+use Rattle.ieee.specs.Constants.{0f, 0·3, 0·7, 1f, 0·5}
 use Rattle.transform.specs.Mapping.{applied}
 use Rattle.transform.specs.declared.Transform.{Transform}
 use Rattle.transform.specs.declared.Pixel.{Pixel}
 use Rattle.lcr_core.specs.Border.{InRange, outerCell}
 use Rattle.lcr_core.specs.declared.border.Cell.{Cell}
 use Rattle.lcr_core.proofs.Signed.{read}
-use Rattle.hull.specs.Points.{0f}
-use Rattle.fit.specs.F32.{_⊕_, _⊘_, whole, 1f}
-use Rattle.search.specs.Samples.{
-  Photo,
-  NearCell,
-  outside,
-  byteAt,
-  addSample,
-  0·5,
-  samplePoint,
-  sampleCell,
-  meanOf,
-}
+use Rattle.fit.specs.F32.{_⊕_, _⊘_, wholeFloat}
+use Rattle.search.specs.Samples.{Photo, NearCell, outside, byteAt, addSample, samplePoint, sampleCell, meanLuma}
 use Rattle.search.specs.Lumas.{noSum, outerSum}
 use Rattle.search.specs.declared.samples.Sum.{Sum}
-use Rattle.search.proofs.Pixels.{inside-x, inside-y, within-pixels}
+use Rattle.search.proofs.Pixels.{inside-x, inside-y}
 
 -- ---- outside the picture
 module _ (w h : ℕ) (p : Pixel) where
   abbrev sides : Bool
-  sides = le (whole w) (p .x) || le (whole h) (p .y)
+  sides = le (wholeFloat w) (p .x) || le (wholeFloat h) (p .y)
 
   pub out-x : lt (p .x) 0f ≡ true → true ≡ outside w h p
   unfolding outside
@@ -61,11 +51,11 @@ module _ (w h : ℕ) (p : Pixel) where
       past-y : sides ≡ outside w h p
       past-y = sym (ap (λ (b : Bool). b || sides) down) ∙ past-x
 
-      pub out-wide : le (whole w) (p .x) ≡ true → true ≡ outside w h p
-      out-wide e = sym (ap (λ (b : Bool). b || le (whole h) (p .y)) e) ∙ past-y
+      pub out-wide : le (wholeFloat w) (p .x) ≡ true → true ≡ outside w h p
+      out-wide e = sym (ap (λ (b : Bool). b || le (wholeFloat h) (p .y)) e) ∙ past-y
 
-      pub out-high : le (whole w) (p .x) ≡ false → le (whole h) (p .y) ≡ outside w h p
-      out-high e = sym (ap (λ (b : Bool). b || le (whole h) (p .y)) e) ∙ past-y
+      pub out-high : le (wholeFloat w) (p .x) ≡ false → le (wholeFloat h) (p .y) ≡ outside w h p
+      out-high e = sym (ap (λ (b : Bool). b || le (wholeFloat h) (p .y)) e) ∙ past-y
 
 -- ---- the byte at a place
 module _ (gray : List ℕ) (w h : ℕ) (p : Pixel) (x y : ℕ) (ex : x ≡ toUnsigned 32 (p .x)) (ey : y ≡ toUnsigned 32 (p .y)) where
@@ -76,7 +66,7 @@ module _ (gray : List ℕ) (w h : ℕ) (p : Pixel) (x y : ℕ) (ex : x ≡ toUns
       let e = f .bytes in
       let wide : x < w = subst (λ (z : ℕ). z < w) (sym ex) (inside-x w h p o (a .0) (a .1)) in
       let high : y < h = subst (λ (z : ℕ). z < h) (sym ey) (inside-y w h p o (b .0) (b .1)) in
-      let z = within-pixels x y w h wide high in
+      let z = place-lt x y w h wide high in
       let m : w * h ≤ 4096 * 4096 = mul-le-mul (a .1) (b .1) in
       (omega arith, omega arith)
 
@@ -87,7 +77,7 @@ module _ (gray : List ℕ) (w h : ℕ) (p : Pixel) (x y : ℕ) (ex : x ≡ toUns
 
 module _ (gray : List ℕ) (w h : ℕ) (s : Sum) (p : Pixel) (b : Bool) (eb : b ≡ outside w h p) where
   abbrev more : ℕ → Sum
-  more n = record { sum = s .sum ⊕ whole n; n = s .n ⊕ 1f }
+  more n = record { sum = s .sum ⊕ wholeFloat n; n = s .n ⊕ 1f }
 
   sample-by : (c : Bool) → b ≡ c → cond c s (more (byteAt gray w p)) ≡ addSample gray w h s p
   unfolding addSample
@@ -138,16 +128,16 @@ module _ (gray : List ℕ) (w h : ℕ) (t : Transform) where
   outer-is v p cell r ec er = er ∙ ap (λ (c : Cell). sampleCell gray w h t c noSum) ec
 
 -- ---- the mean
-mean-by : (s : Sum) (b : Bool) → lt 0f (s .n) ≡ b → cond b (s .sum ⊘ s .n) nan ≡ meanOf s
-unfolding meanOf
+mean-by : (s : Sum) (b : Bool) → lt 0f (s .n) ≡ b → cond b (s .sum ⊘ s .n) nan ≡ meanLuma s
+unfolding meanLuma
 mean-by s b e = sym (ap (λ (b : Bool). cond b (s .sum ⊘ s .n) nan) e)
 
-pub mean-some : (s : Sum) → lt 0f (s .n) ≡ true → s .sum ⊘ s .n ≡ meanOf s
+pub mean-some : (s : Sum) → lt 0f (s .n) ≡ true → s .sum ⊘ s .n ≡ meanLuma s
 mean-some s e = mean-by s true e
 
 no-number : 0f ⊘ 0f ≡ nan
 unfolding div ofBits
 no-number = refl
 
-pub mean-none : (s : Sum) → lt 0f (s .n) ≡ false → 0f ⊘ 0f ≡ meanOf s
+pub mean-none : (s : Sum) → lt 0f (s .n) ≡ false → 0f ⊘ 0f ≡ meanLuma s
 mean-none s e = no-number ∙ mean-by s false e

@@ -9,7 +9,6 @@ use mathlib.Core.List.{List}
 use Prim.Native.Nat.{ℕ, zero, suc, _+_, _-_, _≤_, _<_}
 use native.Mathlib.Omega.{arith}
 use lib.Dec.{ltb}
-use lib.Ieee.{Float}
 use borrow.Author.Tests.{lt-ltb, le-ltb}
 use Rattle.laws.proofs.Steps.{on, done}
 use Rattle.lcr_core.specs.Version.{sideOf}
@@ -17,32 +16,21 @@ use Rattle.transform.specs.declared.Transform.{Transform}
 use Rattle.transform.specs.declared.Mapped.{Mapped}
 use Rattle.transform.specs.declared.Mapped.the-variants.{None, Some}
 use Rattle.search.specs.Geometry.{transformOf}
-use Rattle.search.specs.Versions.{
-  readOf,
-  startOf,
-  pushOf,
-  tooSmall,
-  endedOf,
-  scoredOf,
-  triedOf,
-  stepOf,
-  stepsOn,
-  Held,
-}
+use Rattle.search.specs.Versions.{readOf, noneTried, pushOf, tooSmall, endedOf, scoredOf, nextTried, stepOf, stepsOn, ScoreRoom}
 use Rattle.search.specs.declared.versions.Score.{Score}
 use Rattle.search.specs.declared.versions.Scores.{Scores}
 use Rattle.search.specs.declared.versions.Search.{Search}
 use Rattle.search.specs.declared.versions.Goal.{Goal}
 
-pub start-held : Held startOf
-unfolding startOf
+pub start-held : ScoreRoom noneTried
+unfolding noneTried
 start-held = record { some = omega arith; few = omega arith; room = omega arith }
 
-pub ended-held : {s : Search} → Held s → Held (endedOf s)
+pub ended-held : {s : Search} → ScoreRoom s → ScoreRoom (endedOf s)
 ended-held q = record { some = q .some; few = q .few; room = q .room }
 
 module _ (gray : List ℕ) (w h : ℕ) where
-  pub scored-held : {s : Search} (m : Mapped) → s .next ≤ 64 → Held s → Held (scoredOf gray w h s m)
+  pub scored-held : {s : Search} (m : Mapped) → s .next ≤ 64 → ScoreRoom s → ScoreRoom (scoredOf gray w h s m)
   unfolding scoredOf
   scored-held (Some t) l q =
       let a = q .some in let b = q .room in record { some = omega arith; few = omega arith; room = omega arith }
@@ -54,12 +42,12 @@ module _ (gray : List ℕ) (w h : ℕ) where
     mapped : m ≡ transformOf (g .quad) (sideOf (s .next)) (g .lens)
     mapped = em ∙ ap (λ (n : ℕ). transformOf (g .quad) n (g .lens)) en
 
-    pub skipped : m ≡ None → record { next = s .next + 1; ended = false; scores = s .scores } ≡ triedOf gray w h g s
+    pub skipped : m ≡ None → record { next = s .next + 1; ended = false; scores = s .scores } ≡ nextTried gray w h g s
     unfolding scoredOf
     skipped e = sym (ap (scoredOf gray w h s) (sym mapped ∙ e))
 
     pub scored : {t : Transform} (x : Score) (z : Scores) → m ≡ Some t → x ≡ readOf gray w h t (s .next) → z ≡ pushOf (s .scores) x
-        → record { next = s .next + 1; ended = false; scores = z } ≡ triedOf gray w h g s
+        → record { next = s .next + 1; ended = false; scores = z } ≡ nextTried gray w h g s
     unfolding scoredOf
     scored {t} x z e ex ez =
         ap (λ (z : Scores). record { next = s .next + 1; ended = false; scores = z }) (ez ∙ ap (pushOf (s .scores)) ex)
@@ -68,7 +56,7 @@ module _ (gray : List ℕ) (w h : ℕ) where
   -- ---- a step
   module _ (g : Goal) (s : Search) where
     abbrev small : Bool → Search
-    small b = cond b (endedOf s) (triedOf gray w h g s)
+    small b = cond b (endedOf s) (nextTried gray w h g s)
 
     abbrev past : Bool → Search
     past b = cond b (endedOf s) (small (tooSmall (g .span) (s .next)))
@@ -95,7 +83,7 @@ module _ (gray : List ℕ) (w h : ℕ) where
         pub step-small : b ≡ true → endedOf s ≡ stepOf gray w h g s
         step-small e = size-by true e
 
-        pub step-tried : b ≡ false → triedOf gray w h g s ≡ stepOf gray w h g s
+        pub step-tried : b ≡ false → nextTried gray w h g s ≡ stepOf gray w h g s
         step-tried e = size-by false e
 
   -- ---- a run

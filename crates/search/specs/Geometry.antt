@@ -1,23 +1,23 @@
--- Where a ring of a version lies in the picture, as document 01 has it under "Transform" and ring.rs in `ring_transform`. Definitions only.
+-- Where a ring of a version lies in the picture, by rules 26 and 27 and ring.rs in `ring_transform`. Definitions only.
 -- Assumes nothing.
 use Prim.Native.Nat.{ℕ}
 use mathlib.Core.Bool.{cond}
 use mathlib.Core.List.{List, [], _∷_}
 use lib.Ieee.{Float, eq, neg}
+use Rattle.ieee.specs.Constants.{0f}
 use Rattle.transform.specs.Mapping.{fromQuad, withRadial}
 use Rattle.transform.specs.declared.Transform.{Transform}
 use Rattle.transform.specs.declared.Mapped.{Mapped}
 use Rattle.transform.specs.declared.Mapped.the-variants.{None, Some}
-use Rattle.hull.specs.Points.{0f}
 use Rattle.hull.specs.declared.points.Quad.{Quad}
-use Rattle.fit.specs.F32.{_⊕_, whole, 3f}
+use Rattle.fit.specs.F32.{_⊕_, wholeFloat, 3f}
 use Rattle.lens.specs.declared.straight.Lens.{Lens}
 
 -- The corners of the ring's outer square in module space: from −3 to side + 3 in x and y.
 unfoldable pub ringNumbers : ℕ → List Float
 ringNumbers side =
     let lo = neg 3f in
-    let hi = whole side ⊕ 3f in
+    let hi = wholeFloat side ⊕ 3f in
     lo ∷ lo ∷ hi ∷ lo ∷ hi ∷ hi ∷ lo ∷ hi ∷ []
 
 -- The corners of a quad, x and y alternating.

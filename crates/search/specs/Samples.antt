@@ -4,17 +4,15 @@ use Prim.Native.Nat.{ℕ, _+_, _*_, _≤_}
 use mathlib.Core.Path.{_≡_}
 use mathlib.Core.Bool.{Bool, cond, _||_}
 use mathlib.Core.List.{List}
-use lib.IntN.{ℤ}
-use lib.Ieee.{Float, nan, binary32, lt, le, ofInt, ofBits, toUnsigned}
+use lib.Ieee.{Float, nan, binary32, lt, le, ofInt, toUnsigned}
 use lib.ListN.{length, getD}
-use Rattle.ieee.specs.Constants.{0·3, 0·7}
+use Rattle.ieee.specs.Constants.{0f, 0·3, 0·7, 0·5, 1f}
 use Rattle.transform.specs.Mapping.{applied}
 use Rattle.transform.specs.declared.Transform.{Transform}
 use Rattle.transform.specs.declared.Pixel.{Pixel}
 use Rattle.lcr_core.specs.Border.{InRange}
 use Rattle.lcr_core.specs.declared.border.Cell.{Cell}
-use Rattle.hull.specs.Points.{0f}
-use Rattle.fit.specs.F32.{_⊕_, _⊘_, whole, 1f}
+use Rattle.fit.specs.F32.{_⊕_, _⊘_, wholeFloat}
 use Rattle.search.specs.declared.samples.Sum.{Sum}
 
 -- A picture of w by h bytes, each side from 1 to 4,096.
@@ -30,7 +28,7 @@ pub record NearCell (cell : Cell) : Type 0 where
 
 -- A place outside the picture: below 0, or at or past a side. A NaN coordinate is neither.
 unfoldable pub outside : ℕ → ℕ → Pixel → Bool
-outside w h p = lt (p .x) 0f || (lt (p .y) 0f || (le (whole w) (p .x) || le (whole h) (p .y)))
+outside w h p = lt (p .x) 0f || (lt (p .y) 0f || (le (wholeFloat w) (p .x) || le (wholeFloat h) (p .y)))
 
 -- The byte at a place, each coordinate cut toward zero. A NaN coordinate counts as 0.
 unfoldable pub byteAt : List ℕ → ℕ → Pixel → ℕ
@@ -39,12 +37,9 @@ byteAt gray w p = getD gray (toUnsigned 32 (p .y) * w + toUnsigned 32 (p .x)) 0
 -- A sum with the byte at a place, where that is in the picture.
 unfoldable pub addSample : List ℕ → ℕ → ℕ → Sum → Pixel → Sum
 addSample gray w h s p =
-    cond (outside w h p) s record { sum = s .sum ⊕ whole (byteAt gray w p); n = s .n ⊕ 1f }
+    cond (outside w h p) s record { sum = s .sum ⊕ wholeFloat (byteAt gray w p); n = s .n ⊕ 1f }
 
 -- 0.5, which f32 holds exactly.
-abbrev pub 0·5 : Float
-0·5 = ofBits binary32 0x3f00_0000
-
 -- A sum with the sample at (x + du, y + dv) of a cell.
 unfoldable pub samplePoint : List ℕ → ℕ → ℕ → Transform → Cell → Float → Float → Sum → Sum
 samplePoint gray w h t cell du dv s =
@@ -60,5 +55,5 @@ sampleCell gray w h t cell s =
     (samplePoint gray w h t cell 0·5 0·5 s))))
 
 -- The mean of what was summed; a NaN where there was nothing.
-unfoldable pub meanOf : Sum → Float
-meanOf s = cond (lt 0f (s .n)) (s .sum ⊘ s .n) nan
+unfoldable pub meanLuma : Sum → Float
+meanLuma s = cond (lt 0f (s .n)) (s .sum ⊘ s .n) nan

@@ -1,6 +1,6 @@
 -- The search over versions, one version a step, as ring.rs has it in `correlate_quad`: a version without a transform is skipped, and only
 -- a pitch under 2 ends the list before the greatest version. Definitions only. Assumes nothing.
-use Prim.Native.Nat.{ℕ, zero, suc, _+_, _≤_, _<_}
+use Prim.Native.Nat.{ℕ, zero, suc, _+_, _≤_}
 use mathlib.Core.Bool.{Bool, true, false, cond}
 use mathlib.Core.List.{List, [], _∷_}
 use lib.Dec.{ltb}
@@ -14,8 +14,8 @@ use Rattle.marks.specs.Classify.{lights}
 use Rattle.marks.specs.Doors.{markedPose}
 use Rattle.marks.specs.declared.correlate.Best.{Best}
 use Rattle.marks.specs.declared.correlate.Best.the-variants.{Pose, Refused}
-use Rattle.hull.specs.Points.{0f}
-use Rattle.fit.specs.F32.{_⊕_, _⊘_, whole, 2f}
+use Rattle.fit.specs.F32.{_⊕_, _⊘_, wholeFloat}
+use Rattle.ieee.specs.Constants.{0f, 2f}
 use Rattle.search.specs.Geometry.{transformOf}
 use Rattle.search.specs.Lumas.{lumasOf}
 use Rattle.search.specs.declared.versions.Score.{Score}
@@ -49,8 +49,8 @@ repeated zero a = []
 repeated (suc n) a = a ∷ repeated n a
 
 -- A search with no version tried.
-unfoldable pub startOf : Search
-startOf = record { next = 1; ended = false; scores = record { many = 0; list = repeated 64 noScore } }
+unfoldable pub noneTried : Search
+noneTried = record { next = 1; ended = false; scores = record { many = 0; list = repeated 64 noScore } }
 
 -- One score more.
 abbrev pub pushOf : Scores → Score → Scores
@@ -62,7 +62,7 @@ abbrev pub 8f : Float
 
 -- The pitch, span / (side + 8), is under 2; a NaN is not.
 unfoldable pub tooSmall : Float → ℕ → Bool
-tooSmall span version = lt (span ⊘ (whole (sideOf version) ⊕ 8f)) 2f
+tooSmall span version = lt (span ⊘ (wholeFloat (sideOf version) ⊕ 8f)) 2f
 
 -- A search ended.
 abbrev pub endedOf : Search → Search
@@ -75,8 +75,8 @@ scoredOf gray w h s (Some t) =
 scoredOf gray w h s None = record { next = s .next + 1; ended = false; scores = s .scores }
 
 -- The next version tried.
-abbrev pub triedOf : List ℕ → ℕ → ℕ → Goal → Search → Search
-triedOf gray w h g s = scoredOf gray w h s (transformOf (g .quad) (sideOf (s .next)) (g .lens))
+abbrev pub nextTried : List ℕ → ℕ → ℕ → Goal → Search → Search
+nextTried gray w h g s = scoredOf gray w h s (transformOf (g .quad) (sideOf (s .next)) (g .lens))
 
 -- One step: an ended search stays; past the greatest version or under 2 pixels a module it ends; else one version is tried.
 unfoldable pub stepOf : List ℕ → ℕ → ℕ → Goal → Search → Search
@@ -84,7 +84,7 @@ stepOf gray w h g s =
     cond (s .ended) s
     (cond (ltb (g .most) (s .next)) (endedOf s)
     (cond (tooSmall (g .span) (s .next)) (endedOf s)
-    (triedOf gray w h g s)))
+    (nextTried gray w h g s)))
 
 -- d steps.
 unfoldable pub stepsOn : List ℕ → ℕ → ℕ → Goal → ℕ → ℕ → Search → Search
@@ -93,10 +93,10 @@ stepsOn gray w h g (suc d) k s = stepsOn gray w h g d (k + 1) (stepOf gray w h g
 
 -- The search run to its end: 65 steps, since each step but the last tries one of 64 versions.
 abbrev pub searchOf : List ℕ → ℕ → ℕ → Goal → Search
-searchOf gray w h g = stepsOn gray w h g 65 0 startOf
+searchOf gray w h g = stepsOn gray w h g 65 0 noneTried
 
 -- What holds of a search between steps: there is room for the score of the next version.
-pub record Held (s : Search) : Type 0 where
+pub record ScoreRoom (s : Search) : Type 0 where
   pub some : 1 ≤ s .next
   pub few : s .scores .many ≤ 64
   pub room : s .scores .many + 1 ≤ s .next

@@ -4,7 +4,7 @@ use lens::straight::Lens;
 use transform::Mapped;
 use transform::Transform;
 ghost use mathlib.Core.Path.{_≡_};
-ghost use Rattle.search.specs.Geometry.{ringNumbers, cornerNumbers, lensed, lensedMap};
+ghost use Rattle.search.specs.Geometry.{ringNumbers, cornerNumbers, lensed};
 ghost use Rattle.search.specs.Geometry.{transformOf};
 
 // The corners of the ring's outer square in module space, x and y alternating: 3 cells out.

@@ -6,7 +6,7 @@ ghost use mathlib.Core.Path.{_≡_};
 ghost use mathlib.Core.Bool.{false};
 ghost use Prim.Native.Nat.{_≤_};
 ghost use Rattle.search.specs.Samples.{outside, byteAt, addSample, samplePoint, sampleCell};
-ghost use Rattle.search.specs.Samples.{Photo, NearCell, meanOf};
+ghost use Rattle.search.specs.Samples.{Photo, NearCell, meanLuma};
 
 // Bytes summed so far, and how many they are.
 pub struct Sum {
@@ -93,7 +93,7 @@ pub(crate) fn sample_cell(gray: &[u8], w: usize, h: usize, t: Transform, cell: C
 
 // The mean of what was summed; a NaN where there was nothing.
 pub(crate) fn mean_of(s: Sum) -> f32
-    ensures { λ r. ⌜ r ≡ meanOf s ⌝ }
+    ensures { λ r. ⌜ r ≡ meanLuma s ⌝ }
 {
     if 0.0 < s.n {
         return s.sum / s.n;

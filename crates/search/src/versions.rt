@@ -11,11 +11,9 @@ ghost use mathlib.Core.Path.{_≡_};
 ghost use Prim.Native.Nat.{_<_, _≤_, _+_};
 ghost use lib.ListN.{length};
 ghost use Rattle.lcr_core.specs.Version.{IsVersion, positionsOf};
-ghost use Rattle.marks.specs.Doors.{markedPose};
 ghost use Rattle.search.specs.Samples.{Photo};
-ghost use Rattle.search.specs.Lumas.{lumasOf};
-ghost use Rattle.search.specs.Versions.{noScore, scoreBy, poseOf, readOf, startOf, pushOf};
-ghost use Rattle.search.specs.Versions.{tooSmall, endedOf, triedOf, stepOf, searchOf, Held};
+ghost use Rattle.search.specs.Versions.{noScore, scoreBy, poseOf, readOf, noneTried, pushOf};
+ghost use Rattle.search.specs.Versions.{tooSmall, endedOf, nextTried, stepOf, searchOf, ScoreRoom};
 
 // What was read of a version.
 pub struct Score {
@@ -123,7 +121,7 @@ fn read_ring(gray: &[u8], w: usize, h: usize, t: Transform, version: u8) -> Scor
 
 // A search with no version tried yet.
 pub fn start() -> Search
-    ensures { λ r. ⌜ r ≡ startOf ⌝ }
+    ensures { λ r. ⌜ r ≡ noneTried ⌝ }
 {
     let none = no_score();
     let list = [none; 64];
@@ -175,7 +173,7 @@ fn tried(gray: &[u8], w: usize, h: usize, g: Goal, s: Search) -> Search
     requires { ⌜ Photo (now gray) w h ⌝ }
     requires { ⌜ IsVersion (s .next) ⌝ }
     requires { ⌜ s .scores .many < 64 ⌝ }
-    ensures { λ r. ⌜ r ≡ triedOf (now (gray .entry)) w h g s ⌝ }
+    ensures { λ r. ⌜ r ≡ nextTried (now (gray .entry)) w h g s ⌝ }
 {
     let scores = s.scores;
     let version = s.next;
@@ -198,10 +196,10 @@ fn tried(gray: &[u8], w: usize, h: usize, g: Goal, s: Search) -> Search
 // One step: one version of the quad. A step on an ended search changes nothing.
 fn step(gray: &[u8], w: usize, h: usize, g: Goal, s: Search) -> Search
     requires { ⌜ Photo (now gray) w h ⌝ }
-    requires { ⌜ Held s ⌝ }
+    requires { ⌜ ScoreRoom s ⌝ }
     requires { ⌜ g .most ≤ 64 ⌝ }
-    ensures { λ r. ⌜ r ≡ stepOf (now (gray .entry)) w h g s ⌝ }
-    ensures { λ r. ⌜ Held r ⌝ }
+    ensures answer { λ r. ⌜ r ≡ stepOf (now (gray .entry)) w h g s ⌝ }
+    ensures held { λ r. ⌜ ScoreRoom r ⌝ }
 {
     if s.ended {
         return s;
@@ -219,8 +217,8 @@ fn step(gray: &[u8], w: usize, h: usize, g: Goal, s: Search) -> Search
 pub fn run(gray: &[u8], w: usize, h: usize, g: Goal) -> Search
     requires { ⌜ Photo (now gray) w h ⌝ }
     requires { ⌜ g .most ≤ 64 ⌝ }
-    ensures { λ r. ⌜ r ≡ searchOf (now (gray .entry)) w h g ⌝ }
-    ensures { λ r. ⌜ Held r ⌝ }
+    ensures answer { λ r. ⌜ r ≡ searchOf (now (gray .entry)) w h g ⌝ }
+    ensures held { λ r. ⌜ ScoreRoom r ⌝ }
 {
     let mut s = start();
     let mut k = 0usize;

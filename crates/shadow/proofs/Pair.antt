@@ -1,5 +1,6 @@
--- The pair of pictures that shows that a shadow reaches 11 cells: their cells by `Spots`, their thresholds by `Rows`
--- (crate levels). Assumes nothing.
+-- The pair of pictures that shows that a shadow reaches 11 cells: their cells by `Spots`, their thresholds by `Rows` (crate levels).
+--     not-ten
+-- Assumes nothing.
 use mathlib.Core.Bool.{Bool, cond, false, true, _&&_}
 use mathlib.Core.List.{[]}
 use mathlib.Core.Logic.{_⊎_, inl, inr}
@@ -18,35 +19,35 @@ use Rattle.laws.specs.Plane.{Alike, Plane, box, boxRow, drawn, plane, rowwise}
 use Rattle.levels.proofs.Rows.{row-dark-first, row-light}
 use Rattle.levels.proofs.Same.{level-ext}
 use Rattle.levels.proofs.Spots.{flat-spotted, spot-dark-few, spot-dark-many, spot-light-few}
-use Rattle.levels.specs.Level.{inkAt, level, light}
+use Rattle.levels.specs.Level.{inkOf, inkAt, level, light}
 use Rattle.levels.specs.Spots.{Spotted}
-use Rattle.levels.specs.Steps.{Picture}
+use Rattle.picture_checks.specs.Picture.{Picture}
 use Rattle.shadow.specs.Claims.{InkPast, LevelsPast, NotTen}
-use Rattle.shadow.specs.Shadow.{OneCell, clear, clearBytes, shaded, shadedBytes}
+use Rattle.shadow.specs.Shadow.{OneCell, clearPlane, clearBytes, shaded, shadedBytes}
 
 -- ---- pixels of 0 and 255
 ends : (b : Bool) (v : ℕ) → (v ≡ 0) ⊎ (v ≡ 255) → (cond b 0 v ≡ 0) ⊎ (cond b 0 v ≡ 255)
 ends true v q = inl refl
 ends false v q = q
 
-clear-ends : (x y : ℕ) → (clear x y ≡ 0) ⊎ (clear x y ≡ 255)
+clear-ends : (x y : ℕ) → (clearPlane x y ≡ 0) ⊎ (clearPlane x y ≡ 255)
 clear-ends x y = ends (eqb x 176 && eqb y 0) 255 (inr refl)
 
 shaded-ends : (x y : ℕ) → (shaded x y ≡ 0) ⊎ (shaded x y ≡ 255)
-shaded-ends x y = ends (ltb x 13 && eqb y 0) (clear x y) (clear-ends x y)
+shaded-ends x y = ends (ltb x 13 && eqb y 0) (clearPlane x y) (clear-ends x y)
 
 -- away from these the pixels are 255
-clear-flat : (x y : ℕ) → (x ≡ 176 → ⊥) → clear x y ≡ 255
+clear-flat : (x y : ℕ) → (x ≡ 176 → ⊥) → clearPlane x y ≡ 255
 clear-flat x y e = rw (ne-eqb x 176 e)
 
-shaded-past : (x y : ℕ) → 13 ≤ x → shaded x y ≡ clear x y
+shaded-past : (x y : ℕ) → 13 ≤ x → shaded x y ≡ clearPlane x y
 shaded-past x y l = rw (le-ltb x 13 l)
 
 -- ---- the cells
-clear-cell : (x : ℕ) → x < 14 → (n : ℕ) × (n ≤ 12) × Spotted clear 224 16 x 0 n
+clear-cell : (x : ℕ) → x < 14 → (n : ℕ) × (n ≤ 12) × Spotted clearPlane 224 16 x 0 n
 clear-cell x lx = go (ℕ-discrete x 11)
   where
-    spot : Spotted clear 224 16 11 0 1
+    spot : Spotted clearPlane 224 16 11 0 1
     spot = record {
       wide = omega arith;
       high = omega arith;
@@ -54,12 +55,12 @@ clear-cell x lx = go (ℕ-discrete x 11)
       many = unfold box boxRow fold in refl;
     }
 
-    go : Dec (x ≡ 11) → (n : ℕ) × (n ≤ 12) × Spotted clear 224 16 x 0 n
+    go : Dec (x ≡ 11) → (n : ℕ) × (n ≤ 12) × Spotted clearPlane 224 16 x 0 n
     go (yes e) = (1, omega arith, rw e spot)
     go (no e) = (
       0,
       omega arith,
-      flat-spotted clear 224 16 x 0 (omega arith) (omega arith)
+      flat-spotted clearPlane 224 16 x 0 (omega arith) (omega arith)
           (λ i j li lj. clear-flat (16 * x + i) (16 * 0 + j) (λ z. e (omega arith))),
     )
 
@@ -93,11 +94,11 @@ shaded-cell x low lx = go (ℕ-discrete x 11)
     )
 
 -- ---- the thresholds
-clear-level : level clear 224 16 11 0 ≡ 0
+clear-level : level clearPlane 224 16 11 0 ≡ 0
 clear-level =
-    row-light clear
-    (λ x l. let s = clear-cell x l in spot-dark-few clear 224 16 x 0 (s .0) (s .2) (s .1))
-    (λ x l. let s = clear-cell x l in spot-light-few clear 224 16 x 0 (s .0) (s .2) (omega (arith, s .1)))
+    row-light clearPlane
+    (λ x l. let s = clear-cell x l in spot-dark-few clearPlane 224 16 x 0 (s .0) (s .2) (s .1))
+    (λ x l. let s = clear-cell x l in spot-light-few clearPlane 224 16 x 0 (s .0) (s .2) (omega (arith, s .1)))
     11 (omega arith)
 
 shaded-level : level shaded 224 16 11 0 ≡ 204
@@ -112,9 +113,9 @@ shaded-level =
         spot-light-few shaded 224 16 (suc x) 0 (s .0) (s .2) (omega (arith, s .1))
 
 -- ---- from planes to bytes
-clear-held : Alike 224 16 (plane 224 clearBytes) clear
+clear-held : Alike 224 16 (plane 224 clearBytes) clearPlane
 unfolding clearBytes
-clear-held = plane-drawn 224 16 clear []
+clear-held = plane-drawn 224 16 clearPlane []
 
 shaded-held : Alike 224 16 (plane 224 shadedBytes) shaded
 unfolding shadedBytes
@@ -123,7 +124,7 @@ shaded-held = plane-drawn 224 16 shaded []
 one-cell : OneCell 224 16 0 0 clearBytes shadedBytes
 one-cell x y lx ly other = clear-held x y lx ly ∙ go (decLt x 13) ∙ sym (shaded-held x y lx ly)
   where
-    go : Dec (x < 13) → clear x y ≡ shaded x y
+    go : Dec (x < 13) → clearPlane x y ≡ shaded x y
     go (yes l) = absurd (other (omega arith, omega arith))
     go (no l) = sym (shaded-past x y (omega arith))
 
@@ -147,26 +148,26 @@ picture : (f : Plane) → Picture (drawn 224 16 f []) 224 16
 picture f = record { w-low = omega arith; w-high = omega arith; h-low = omega arith; h-high = omega arith; count = many f }
 
 clear-bytes-level : level (plane 224 clearBytes) 224 16 11 0 ≡ 0
-clear-bytes-level = level-ext 224 16 (plane 224 clearBytes) clear clear-held 11 0 (omega arith) (omega arith) ∙ clear-level
+clear-bytes-level = level-ext 224 16 (plane 224 clearBytes) clearPlane clear-held 11 0 (omega arith) (omega arith) ∙ clear-level
 
 shaded-bytes-level : level (plane 224 shadedBytes) 224 16 11 0 ≡ 204
 shaded-bytes-level = level-ext 224 16 (plane 224 shadedBytes) shaded shaded-held 11 0 (omega arith) (omega arith) ∙ shaded-level
 
 clear-ink : inkAt (plane 224 clearBytes) 224 16 176 0 ≡ false
-unfolding inkAt
+unfolding inkAt inkOf
 clear-ink = ap₂ ltb (clear-held 176 0 (omega arith) (omega arith)) clear-bytes-level
 
 shaded-ink : inkAt (plane 224 shadedBytes) 224 16 176 0 ≡ true
-unfolding inkAt
+unfolding inkAt inkOf
 shaded-ink = ap₂ ltb (shaded-held 176 0 (omega arith) (omega arith)) shaded-bytes-level
 
 pub not-ten : NotTen
 unfolding clearBytes shadedBytes LevelsPast InkPast
 not-ten = record {
-  first = picture clear;
+  first = picture clearPlane;
   second = picture shaded;
   bytes = λ i. (
-    small 224 16 clear (λ x y. byte (clear x y) (clear-ends x y)) i,
+    small 224 16 clearPlane (λ x y. byte (clearPlane x y) (clear-ends x y)) i,
     small 224 16 shaded (λ x y. byte (shaded x y) (shaded-ends x y)) i,
   );
   one-cell = one-cell;

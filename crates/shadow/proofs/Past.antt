@@ -1,6 +1,5 @@
 -- The change of one level cell reaches no farther than 11 cells, so none that are more than r away, for every r from 11 on: levels-by,
 -- levels-past, ink-past, doors-past. Assumes nothing.
-use mathlib.Core.List.{List}
 use mathlib.Core.Logic.{inl, inr}
 use mathlib.Core.Path.{_∙_, _≡_, ap₂, sym}
 use Prim.Native.Nat.{_/_, _<_, _≤_, ℕ}
@@ -9,16 +8,16 @@ use lib.Dec.{ltb}
 use Rattle.laws.specs.Plane.{plane}
 use Rattle.levels.proofs.Same.{level-local}
 use Rattle.levels.specs.Level.{cells, inkAt, inkOf}
-use Rattle.levels.specs.Reach.{Near}
+use Rattle.levels.specs.Reach.{WithinCells}
 use Rattle.turned.proofs.Calls.{grid-at}
 use Rattle.shadow.specs.Claims.{GridsPast, InkPast, LevelsBy, LevelsPast}
 use Rattle.shadow.specs.Shadow.{Away}
 
-away-near : {r cx cy x y : ℕ} → Away r cx cy x y → Near r x y cx cy → ⊥
+away-near : {r cx cy x y : ℕ} → Away r cx cy x y → WithinCells r x y cx cy → ⊥
 away-near (inl a) n = omega arith
 away-near (inr a) n = omega arith
 
-near-more : {k r x y i j : ℕ} → k ≤ r → Near k x y i j → Near r x y i j
+near-more : {k r x y i j : ℕ} → k ≤ r → WithinCells k x y i j → WithinCells r x y i j
 near-more more n = record { right = omega arith; left = omega arith; below = omega arith; above = omega arith }
 
 -- a pixel of a cell so far away is not in the cell that differs
@@ -40,7 +39,7 @@ module _ {r : ℕ} (far : 11 ≤ r) where
       (λ u v lu lv n. one u v lu lv (λ e. away-near away (near-more far (rw (e .0, e .1) at n))))
 
   pub ink-past : InkPast r
-  unfolding InkPast inkAt LevelsPast
+  unfolding InkPast inkAt inkOf LevelsPast
   ink-past w h s t cx cy one x y lx ly away =
       ap₂ ltb (one x y lx ly (other-cell r cx cy x y away)) (levels-past w h s t cx cy one (x / 16) (y / 16) (omega arith) (omega arith) away)
 

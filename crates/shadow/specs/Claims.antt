@@ -7,8 +7,8 @@ use Prim.Native.Nat.{ℕ, _/_, _<_}
 use lib.ListN.{getD}
 use Rattle.laws.specs.Plane.{plane}
 use Rattle.levels.specs.Level.{cells, level, inkAt, inkOf}
-use Rattle.levels.specs.Reach.{Near}
-use Rattle.levels.specs.Steps.{Picture}
+use Rattle.levels.specs.Reach.{WithinCells}
+use Rattle.picture_checks.specs.Picture.{Picture}
 use Rattle.turned.specs.Calls.{Pictured}
 use Rattle.shadow.specs.Shadow.{Away, OneCell, clearBytes, shadedBytes}
 
@@ -16,7 +16,7 @@ use Rattle.shadow.specs.Shadow.{Away, OneCell, clearBytes, shadedBytes}
 -- however many others differ.
 unfoldable pub LevelsBy : ℕ → Type 0
 LevelsBy r = (w h : ℕ) (s t : List ℕ) (x y : ℕ) → x < cells w → y < cells h
-    → ((u v : ℕ) → u < w → v < h → Near r x y (u / 16) (v / 16) → plane w s u v ≡ plane w t u v)
+    → ((u v : ℕ) → u < w → v < h → WithinCells r x y (u / 16) (v / 16) → plane w s u v ≡ plane w t u v)
     → level (plane w s) w h x y ≡ level (plane w t) w h x y
 
 -- Pictures that differ only in pixels of one level cell have equal thresholds in every level cell more than r columns or more than r rows

@@ -7,8 +7,8 @@ use lib.Dec.{eqb, ltb}
 use borrow.Author.Tests.{eqb-true, ne-eqb}
 use Rattle.laws.specs.Plane.{Plane}
 use Rattle.laws.proofs.Bools.{and-right}
-use Rattle.levels.specs.Level.{level}
-use Rattle.regions.specs.Cells.{labelAt, groupSize, groupsOf}
+use Rattle.levels.specs.Level.{inkOf, level}
+use Rattle.labels.specs.Cells.{labelAt, groupSize, groupsOf}
 use Rattle.regions.specs.Kept.{keptOf, keptAt, keptCount, keptLabel, place, want, ahead}
 use Rattle.regions.proofs.Kept.{kept-at}
 use Rattle.boundary.specs.Boundary.{counts, memberOf, isMember}
@@ -23,7 +23,7 @@ counts-is l k e =
 
 module _ (p : Plane) (w h : ℕ) where
   member-label : (i x y : ℕ) → isMember p w h (keptLabel p w h i) x y ≡ true → labelAt p w h (x / 8) (y / 8) ≡ keptLabel p w h i
-  unfolding isMember memberOf keptLabel
+  unfolding isMember memberOf inkOf keptLabel
   member-label i x y e =
       counts-is (keptAt (groupSize p w h) (groupsOf p w h) i) (labelAt p w h (x / 8) (y / 8))
       (and-right (ltb (p x y) (level p w h (x / 16) (y / 16))) _ e)

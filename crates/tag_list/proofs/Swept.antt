@@ -7,7 +7,7 @@ use native.Mathlib.Omega.{arith}
 use borrow.Author.Tests.{eq-eqb, ne-eqb}
 use Rattle.ring.specs.Trace.{firstOf, shortTrace}
 use Rattle.ring.specs.declared.quads.Trace.{Trace}
-use Rattle.finder.specs.Find.{tryOf, bestOf}
+use Rattle.finder.specs.Find.{tryOf, bestTrace}
 use Rattle.finder.proofs.Standing.{best-begin, best-first, best-more}
 use Rattle.tag_list.specs.declared.tag.Tags.{Tags}
 use Rattle.tag_list.specs.declared.sweep.Swept.{Swept}
@@ -25,10 +25,10 @@ module _ (best t : Trace) (i : ℕ) where
   unfolding standingOf
   standing-more z r er = er ∙ sym (ap (λ (b : Bool). cond b t (firstOf best t)) (ne-eqb i 0 z))
 
-best-next : (f : ℕ → Trace) (i : ℕ) (best t : Trace) → best ≡ bestOf f i → t ≡ f i → standingOf best t i ≡ bestOf f (i + 1)
+best-next : (f : ℕ → Trace) (i : ℕ) (best t : Trace) → best ≡ bestTrace f i → t ≡ f i → standingOf best t i ≡ bestTrace f (i + 1)
 best-next f i best t eb et = go (native.Mathlib.Decide.ℕ-discrete i 0)
   where
-    go : Dec (i ≡ 0) → standingOf best t i ≡ bestOf f (i + 1)
+    go : Dec (i ≡ 0) → standingOf best t i ≡ bestTrace f (i + 1)
     go (yes z) = sym (standing-first best t i z) ∙ best-first f i t z et
     go (no z) = sym (standing-more best t i z (firstOf best t) refl) ∙ best-more f i best t (firstOf best t) z eb et refl
 

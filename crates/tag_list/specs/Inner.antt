@@ -9,7 +9,7 @@ use Rattle.accept.specs.declared.Fixed.{Fixed}
 use Rattle.accept.specs.declared.Fixed.the-variants.{At, NoFix}
 use Rattle.ring.specs.Trace.{firstOf}
 use Rattle.ring.specs.declared.quads.Trace.{Trace}
-use Rattle.finder.specs.Find.{tryOf, bestOf}
+use Rattle.finder.specs.Find.{tryOf, bestTrace}
 use Rattle.tag_list.specs.declared.tag.Tag.{Tag}
 use Rattle.tag_list.specs.declared.tag.Tags.{Tags}
 use Rattle.tag_list.specs.declared.sweep.Swept.{Swept}
@@ -30,5 +30,5 @@ standingOf best t i = cond (eqb i 0) t (firstOf best t)
 
 -- What is known after i tries of a picture: the trace that stands, and the tags of their own fixes.
 pub record After (gray : List ℕ) (w h most i : ℕ) (s : Swept) : Type 0 where
-  pub best : s .best ≡ bestOf (tryOf gray w h most) i
+  pub best : s .best ≡ bestTrace (tryOf gray w h most) i
   pub tags : s .tags ≡ fourTags (ownTags (tryOf gray w h most) i)

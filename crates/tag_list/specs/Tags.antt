@@ -5,16 +5,16 @@ use mathlib.Core.Bool.{false}
 use mathlib.Core.List.{List, [], _∷_, _++_}
 use lib.Ieee.{Float, neg}
 use lib.ListN.{length}
+use Rattle.ieee.specs.Constants.{0f}
 use Rattle.laws.specs.Plane.{plane}
 use Rattle.laws.specs.Said.{Said}
 use Rattle.lcr_core.specs.Version.{sideOf}
 use Rattle.regions.specs.Kept.{keptCount}
 use Rattle.transform.specs.Mapping.{applied}
 use Rattle.transform.specs.declared.Transform.{Transform}
-use Rattle.hull.specs.Points.{0f}
 use Rattle.hull.specs.declared.points.Point.{Point}
 use Rattle.hull.specs.declared.points.Quad.{Quad}
-use Rattle.fit.specs.F32.{_⊕_, whole, 3f}
+use Rattle.fit.specs.F32.{_⊕_, wholeFloat, 3f}
 use Rattle.accept.specs.declared.Fix.{Fix}
 use Rattle.accept.specs.declared.Fixed.{Fixed}
 use Rattle.accept.specs.declared.Fixed.the-variants.{At, NoFix}
@@ -28,20 +28,20 @@ use Rattle.tag_list.specs.declared.Answer.{Answer}
 
 -- ---- a tag
 -- The place in the picture of a place (u, v) of module space.
-unfoldable pub pointOf : Transform → Float → Float → Point
-pointOf m u v = record { x = applied m u v .x; y = applied m u v .y }
+unfoldable pub mappedPoint : Transform → Float → Float → Point
+mappedPoint m u v = record { x = applied m u v .x; y = applied m u v .y }
 
 -- The corners of a ring in the picture, in its own order: of its outer square, from −3 to side + 3 in x and y, first the corner of
 -- position 0, then along rising positions.
-unfoldable pub cornersOf : Fix → Quad
-cornersOf f =
+unfoldable pub ringCorners : Fix → Quad
+ringCorners f =
     let lo = neg 3f in
-    let hi = whole (sideOf (f .version)) ⊕ 3f in
-    record { a = pointOf (f .map) lo lo; b = pointOf (f .map) hi lo; c = pointOf (f .map) hi hi; d = pointOf (f .map) lo hi }
+    let hi = wholeFloat (sideOf (f .version)) ⊕ 3f in
+    record { a = mappedPoint (f .map) lo lo; b = mappedPoint (f .map) hi lo; c = mappedPoint (f .map) hi hi; d = mappedPoint (f .map) lo hi }
 
 -- The tag of a fix.
 unfoldable pub tagOf : Fix → Tag
-tagOf f = record { version = f .version; agreement = f .agreement; mirrored = f .mirrored; corners = cornersOf f }
+tagOf f = record { version = f .version; agreement = f .agreement; mirrored = f .mirrored; corners = ringCorners f }
 
 -- ---- the tags of a picture
 -- The tag of a fix or none, as a list.

@@ -10,10 +10,10 @@ use ring::quads::Trace;
 ghost use mathlib.Core.Path.{_≡_};
 ghost use Prim.Native.Nat.{_≤_};
 ghost use Rattle.laws.specs.Plane.{plane};
-ghost use Rattle.regions.specs.Door.{keptRegions};
+ghost use Rattle.regions.specs.Regions.{keptRegions};
 ghost use Rattle.search.specs.Samples.{Photo};
 ghost use Rattle.region_outline.specs.Region.{needOf, Gridded};
-ghost use Rattle.finder.specs.Find.{triesOf, tryOf, bestOf, traceOf};
+ghost use Rattle.finder.specs.Find.{triesOf, tryOf, bestTrace, traceOf};
 ghost use Rattle.finder.specs.Inner.{Roomy, Worked};
 ghost use Rattle.tag_list.specs.Tags.{fixTags, fourTags, tagsOf};
 
@@ -37,12 +37,12 @@ fn after_all_ink(
     requires { ⌜ Gridded (now gray) w h (now levels) (now labels) ⌝ }
     requires { ⌜ k ≡ keptRegions (plane w (now gray)) w h ⌝ }
     requires { ⌜ most ≤ 64 ⌝ }
-    requires { ⌜ best ≡ bestOf (tryOf (now gray) w h most) (k .kept) ⌝ }
+    requires { ⌜ best ≡ bestTrace (tryOf (now gray) w h most) (k .kept) ⌝ }
     requires { ⌜ Roomy (needOf w h) (now points) (now straight) (now cand) (now buf) ⌝ }
-    ensures { λ t. ⌜
-        t ≡ bestOf (tryOf (now (gray .entry)) w h most)
+    ensures answer { λ t. ⌜
+        t ≡ bestTrace (tryOf (now (gray .entry)) w h most)
         (triesOf (plane w (now (gray .entry))) w h) ⌝ }
-    ensures { λ _. ⌜
+    ensures points { λ _. ⌜
         Worked (needOf w h) (now (points .entry)) (now (points .exit))
         (now (straight .entry)) (now (straight .exit)) (now (cand .entry)) (now (cand .exit))
         (now (buf .entry)) (now (buf .exit)) ⌝ }
@@ -87,10 +87,10 @@ fn found_tag(
     requires { ⌜ Gridded (now gray) w h (now levels) (now labels) ⌝ }
     requires { ⌜ k ≡ keptRegions (plane w (now gray)) w h ⌝ }
     requires { ⌜ most ≤ 64 ⌝ }
-    requires { ⌜ best ≡ bestOf (tryOf (now gray) w h most) (k .kept) ⌝ }
+    requires { ⌜ best ≡ bestTrace (tryOf (now gray) w h most) (k .kept) ⌝ }
     requires { ⌜ Roomy (needOf w h) (now points) (now straight) (now cand) (now buf) ⌝ }
-    ensures { λ r. ⌜ r ≡ fourTags (fixTags (traceOf (now (gray .entry)) w h most .fix)) ⌝ }
-    ensures { λ _. ⌜
+    ensures answer { λ r. ⌜ r ≡ fourTags (fixTags (traceOf (now (gray .entry)) w h most .fix)) ⌝ }
+    ensures points { λ _. ⌜
         Worked (needOf w h) (now (points .entry)) (now (points .exit))
         (now (straight .entry)) (now (straight .exit)) (now (cand .entry)) (now (cand .exit))
         (now (buf .entry)) (now (buf .exit)) ⌝ }
@@ -133,8 +133,8 @@ pub(crate) fn all_tags(
     requires { ⌜ k ≡ keptRegions (plane w (now gray)) w h ⌝ }
     requires { ⌜ most ≤ 64 ⌝ }
     requires { ⌜ Roomy (needOf w h) (now points) (now straight) (now cand) (now buf) ⌝ }
-    ensures { λ r. ⌜ r ≡ fourTags (tagsOf (now (gray .entry)) w h most) ⌝ }
-    ensures { λ _. ⌜
+    ensures answer { λ r. ⌜ r ≡ fourTags (tagsOf (now (gray .entry)) w h most) ⌝ }
+    ensures points { λ _. ⌜
         Worked (needOf w h) (now (points .entry)) (now (points .exit))
         (now (straight .entry)) (now (straight .exit)) (now (cand .entry)) (now (cand .exit))
         (now (buf .entry)) (now (buf .exit)) ⌝ }

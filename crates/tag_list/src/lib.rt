@@ -10,7 +10,7 @@ use ring::door::Outcome;
 ghost use mathlib.Core.Path.{_≡_};
 ghost use lib.ListN.{length};
 ghost use Rattle.laws.specs.Lent.{UntouchedPast};
-ghost use Rattle.regions.specs.Door.{levelsAfter, labelsAfter, StackAfter};
+ghost use Rattle.picture.specs.Door.{levelsAfter, labelsAfter, StackAfter};
 ghost use Rattle.finder.specs.Find.{checkFind, numberOf, neededOf};
 ghost use Rattle.tag_list.specs.Tags.{tagsRefused, tagsBy};
 ghost use Rattle.region_outline.specs.Region.{needOf};

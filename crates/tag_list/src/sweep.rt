@@ -11,7 +11,7 @@ use ring::quads::is_fixed;
 ghost use mathlib.Core.Path.{_≡_};
 ghost use Prim.Native.Nat.{_+_, _<_, _≤_};
 ghost use Rattle.laws.specs.Plane.{plane};
-ghost use Rattle.regions.specs.Door.{keptRegions};
+ghost use Rattle.regions.specs.Regions.{keptRegions};
 ghost use Rattle.search.specs.Samples.{Photo};
 ghost use Rattle.ring.specs.Trace.{firstOf};
 ghost use Rattle.region_outline.specs.Region.{needOf, Gridded};
@@ -74,8 +74,8 @@ fn sweep_next(
     requires { ⌜ i < 4 ⌝ }
     requires { ⌜ After (now gray) w h most i s ⌝ }
     requires { ⌜ Roomy (needOf w h) (now points) (now straight) (now cand) (now buf) ⌝ }
-    ensures { λ r. ⌜ After (now (gray .entry)) w h most (i + 1) r ⌝ }
-    ensures { λ _. ⌜
+    ensures answer { λ r. ⌜ After (now (gray .entry)) w h most (i + 1) r ⌝ }
+    ensures points { λ _. ⌜
         Worked (needOf w h) (now (points .entry)) (now (points .exit))
         (now (straight .entry)) (now (straight .exit)) (now (cand .entry)) (now (cand .exit))
         (now (buf .entry)) (now (buf .exit)) ⌝ }
@@ -122,8 +122,8 @@ pub(crate) fn sweep(
     requires { ⌜ k ≡ keptRegions (plane w (now gray)) w h ⌝ }
     requires { ⌜ most ≤ 64 ⌝ }
     requires { ⌜ Roomy (needOf w h) (now points) (now straight) (now cand) (now buf) ⌝ }
-    ensures { λ r. ⌜ After (now (gray .entry)) w h most (k .kept) r ⌝ }
-    ensures { λ _. ⌜
+    ensures answer { λ r. ⌜ After (now (gray .entry)) w h most (k .kept) r ⌝ }
+    ensures points { λ _. ⌜
         Worked (needOf w h) (now (points .entry)) (now (points .exit))
         (now (straight .entry)) (now (straight .exit)) (now (cand .entry)) (now (cand .exit))
         (now (buf .entry)) (now (buf .exit)) ⌝ }

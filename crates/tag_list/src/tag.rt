@@ -7,7 +7,7 @@ use lcr_core::version::Version;
 use transform::Transform;
 ghost use mathlib.Core.Path.{_≡_};
 ghost use Prim.Native.Nat.{_<_};
-ghost use Rattle.tag_list.specs.Tags.{pointOf, cornersOf, tagOf, noTag, noTags};
+ghost use Rattle.tag_list.specs.Tags.{mappedPoint, ringCorners, tagOf, noTag, noTags};
 ghost use Rattle.tag_list.specs.Inner.{withTag, withFix};
 
 // A tag in a picture.
@@ -31,7 +31,7 @@ pub struct Tags {
 
 // The place in the picture of a place of module space.
 fn point_of(m: Transform, u: f32, v: f32) -> Point
-    ensures { λ r. ⌜ r ≡ pointOf m u v ⌝ }
+    ensures { λ r. ⌜ r ≡ mappedPoint m u v ⌝ }
 {
     let p = m.apply(u, v);
     Point { x: p.x, y: p.y }
@@ -39,7 +39,7 @@ fn point_of(m: Transform, u: f32, v: f32) -> Point
 
 // The corners of a ring in the picture, in its own order.
 fn corners_of(f: Fix) -> Quad
-    ensures { λ r. ⌜ r ≡ cornersOf f ⌝ }
+    ensures { λ r. ⌜ r ≡ ringCorners f ⌝ }
 {
     let lo = -3.0f32;
     let hi = Version::side_of(f.version) as f32 + 3.0;

@@ -1,7 +1,6 @@
 -- Closed cases whose answers were worked out by hand: numbers with a point. By computation. Assumes nothing.
 use mathlib.Core.Path.{_≡_, refl}
-use mathlib.Core.List.{List, [], _∷_}
-use Prim.Native.Nat.{ℕ}
+use mathlib.Core.List.{[], _∷_}
 use lib.Ieee.{binary32, ofBits, ofInt, add, mul, lt, le, toUnsigned}
 use Rattle.text.specs.Text.{spelt, decimal, lastDigits}
 use Rattle.ieee.specs.Ops.{abs}

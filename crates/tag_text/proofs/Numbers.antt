@@ -6,22 +6,22 @@
 --   pointed-stored                   sign, number, point and last digits
 --   far-stored, near-stored          a number far away, or with its digits
 -- Assumes nothing.
-use mathlib.Core.Path.{_≡_, refl, sym, ap, _∙_, subst}
-use mathlib.Core.Bool.{Bool, true, false, not, cond, _&&_}
+use mathlib.Core.Path.{_≡_, sym, ap, _∙_}
+use mathlib.Core.Bool.{Bool, true, false, not, cond}
 use mathlib.Core.List.{List, [], _∷_, _++_}
-use Prim.Native.Nat.{ℕ, _+_, _/_, _^_, _≤_, _<_}
+use Prim.Native.Nat.{ℕ, _/_, _^_, _≤_, _<_}
 use native.Mathlib.Omega.{arith}
 use lib.Dec.{eqb}
 use lib.IntN.{pos}
 use lib.Ieee.{Float, binary64, ofInt, add, mul, lt, toUnsigned}
 use lib.ListN.{length}
-use borrow.Author.Tests.{eq-eqb, ne-eqb}
+use Rattle.ieee.specs.Constants.{0f}
 use Rattle.laws.specs.Lent.{Stored}
 use Rattle.laws.proofs.Stores.{stored-none, stored-append, stored-ext}
 use Rattle.ieee.specs.Ops.{abs}
 use Rattle.text.specs.Text.{decimal, lastDigits}
 use Rattle.text.proofs.Decimals.{decimal-tens}
-use Rattle.tag_text.specs.Decimal.{0f, ½, farWord, scaled, isFar, isMinus, signText, pointed, fixed}
+use Rattle.tag_text.specs.Decimal.{½, farWord, scaled, isFar, isMinus, signText, pointed, fixed}
 
 -- ---- digits
 pub count-few : (n : ℕ) → n < 4294967296 → length (decimal n) ≤ 10

@@ -8,7 +8,7 @@
 --   given-text, refused-text            an answer
 --   filled-is                           a text that begins 1,024 bytes of zeros
 -- Assumes nothing.
-use mathlib.Core.Path.{_≡_, refl, sym, ap, ap₂, _∙_}
+use mathlib.Core.Path.{_≡_, refl, sym, ap, _∙_}
 use mathlib.Core.Bool.{Bool, true, false}
 use mathlib.Core.List.{List, [], _∷_, _++_, append-nil}
 use Prim.Native.Nat.{ℕ, zero, suc, _+_, _≤_, _<_, min}
@@ -29,7 +29,7 @@ use Rattle.tag_list.specs.declared.tag.Tag.{Tag}
 use Rattle.tag_list.specs.declared.tag.Tags.{Tags}
 use Rattle.tag_list.specs.declared.Answer.{Answer}
 use Rattle.tag_text.specs.Decimal.{fixed}
-use Rattle.tag_text.specs.Lines.{noneWord, versionWord, agreementWord, mirroredWord, yesWord, noWord, cornersWord, end, yesOrNo}
+use Rattle.tag_text.specs.Lines.{noneText, versionWord, agreementWord, mirroredWord, yesWord, noWord, cornersWord, end, yesOrNo}
 use Rattle.tag_text.specs.Lines.{pointText, cornersText, ringText, poseText, tagLine, tagLines, someLines, tagsText, outcomeText}
 use Rattle.tag_text.specs.Lines.{answerText, filled}
 
@@ -99,10 +99,10 @@ module _ (t : Tags) (n : ℕ) (is : n ≡ min (t .many) 4) where
   unfolding tagsText
   text-is = ap (someLines (t .list)) is
 
-  pub none-stored : {r : ℕ} {l l′ : List ℕ} → n ≡ 0 → Stored 0 (noneWord ++ end) l l′ r → Stored 0 (tagsText t) l l′ r
-  none-stored e v = stored-ext (noneWord ++ end) (tagsText t) (none ∙ ap (someLines (t .list)) (sym e) ∙ text-is) v
+  pub none-stored : {r : ℕ} {l l′ : List ℕ} → n ≡ 0 → Stored 0 (noneText ++ end) l l′ r → Stored 0 (tagsText t) l l′ r
+  none-stored e v = stored-ext (noneText ++ end) (tagsText t) (none ∙ ap (someLines (t .list)) (sym e) ∙ text-is) v
     where
-      none : noneWord ++ end ≡ someLines (t .list) 0
+      none : noneText ++ end ≡ someLines (t .list) 0
       none = unfold someLines in refl
 
   pub some-stored : {r : ℕ} {l l′ : List ℕ} → (n ≡ 0 → ⊥) → Stored 0 (tagLines (t .list) n) l l′ r → Stored 0 (tagsText t) l l′ r

@@ -5,13 +5,11 @@ use Prim.Native.Nat.{ℕ, _/_, _^_}
 use lib.Dec.{eqb}
 use lib.IntN.{pos}
 use lib.Ieee.{Float, binary32, binary64, ofBits, ofInt, add, mul, lt, le, toUnsigned}
+use Rattle.ieee.specs.Constants.{0f}
 use Rattle.ieee.specs.Ops.{abs}
 use Rattle.text.specs.Text.{decimal, lastDigits}
 
--- 0, and a half.
-abbrev pub 0f : Float
-0f = ofBits binary32 0
-
+-- A half.
 abbrev pub ½ : Float
 ½ = ofBits binary64 0x3fe0_0000_0000_0000
 

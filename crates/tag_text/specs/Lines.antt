@@ -19,8 +19,8 @@ use Rattle.tag_text.specs.Decimal.{fixed}
 
 -- ---- the words
 -- none
-abbrev pub noneWord : List ℕ
-noneWord = 110 ∷ 111 ∷ 110 ∷ 101 ∷ []
+abbrev pub noneText : List ℕ
+noneText = 110 ∷ 111 ∷ 110 ∷ 101 ∷ []
 
 -- version
 abbrev pub versionWord : List ℕ
@@ -82,7 +82,7 @@ tagLines list n = joined n (λ i. tagLine (getD list i noTag))
 
 -- The lines of n tags, or `none`.
 unfoldable pub someLines : List Tag → ℕ → List ℕ
-someLines list zero = noneWord ++ end
+someLines list zero = noneText ++ end
 someLines list (suc n) = tagLines list (suc n)
 
 -- The lines of the tags, of which there are at most four.

@@ -9,14 +9,7 @@ ghost use lib.ListN.{length};
 ghost use lib.Ieee as Ieee;
 ghost use Rattle.laws.specs.Lent.{Stored};
 ghost use Rattle.text.specs.Text.{decimal};
-ghost use Rattle.tag_text.specs.Decimal.{
-  scaled,
-  isFar,
-  isMinus,
-  signText,
-  pointed,
-  fixed,
-};
+ghost use Rattle.tag_text.specs.Decimal.{scaled, isFar, isMinus, signText, pointed, fixed};
 
 // x cut toward zero to a u32: 0 from below and for a NaN, the greatest from above.
 fn cut(x: f64) -> u32
@@ -62,8 +55,8 @@ fn is_minus(x: f32, n: u32) -> bool
 // A minus sign, or nothing.
 fn put_sign(out: &mut [u8], at: usize, minus: bool) -> usize
     requires { ⌜ at + 1 ≤ length (now out) ⌝ }
-    ensures { λ r. ⌜ Stored at (signText minus) (now (out .entry)) (now (out .exit)) r ⌝ }
-    ensures { λ r. ⌜ r ≤ at + 1 ⌝ }
+    ensures out { λ r. ⌜ Stored at (signText minus) (now (out .entry)) (now (out .exit)) r ⌝ }
+    ensures most { λ r. ⌜ r ≤ at + 1 ⌝ }
 {
     if minus {
         return put_byte(out, at, b'-');
@@ -74,8 +67,8 @@ fn put_sign(out: &mut [u8], at: usize, minus: bool) -> usize
 // A whole number.
 fn put_whole(out: &mut [u8], at: usize, n: u32) -> usize
     requires { ⌜ at + 10 ≤ length (now out) ⌝ }
-    ensures { λ r. ⌜ Stored at (decimal n) (now (out .entry)) (now (out .exit)) r ⌝ }
-    ensures { λ r. ⌜ r ≤ at + 10 ⌝ }
+    ensures out { λ r. ⌜ Stored at (decimal n) (now (out .entry)) (now (out .exit)) r ⌝ }
+    ensures most { λ r. ⌜ r ≤ at + 10 ⌝ }
 {
     put_number(out, at, n as usize)
 }
@@ -84,8 +77,8 @@ fn put_whole(out: &mut [u8], at: usize, n: u32) -> usize
 fn put_pointed(out: &mut [u8], at: usize, x: f32, digits: usize, unit: u32, n: u32) -> usize
     requires { ⌜ (unit ≡ 10 ^ digits) × (0 < unit) ⌝ }
     requires { ⌜ at + (12 + digits) ≤ length (now out) ⌝ }
-    ensures { λ r. ⌜ Stored at (pointed digits x n) (now (out .entry)) (now (out .exit)) r ⌝ }
-    ensures { λ r. ⌜ r ≤ at + (12 + digits) ⌝ }
+    ensures out { λ r. ⌜ Stored at (pointed digits x n) (now (out .entry)) (now (out .exit)) r ⌝ }
+    ensures most { λ r. ⌜ r ≤ at + (12 + digits) ⌝ }
 {
     let a = put_sign(out, at, is_minus(x, n));
     let b = put_whole(out, a, n / unit);
@@ -97,8 +90,8 @@ fn put_pointed(out: &mut [u8], at: usize, x: f32, digits: usize, unit: u32, n: u
 pub(crate) fn put_fixed(out: &mut [u8], at: usize, x: f32, digits: usize, unit: u32) -> usize
     requires { ⌜ (unit ≡ 10 ^ digits) × (0 < unit) ⌝ }
     requires { ⌜ at + (13 + digits) ≤ length (now out) ⌝ }
-    ensures { λ r. ⌜ Stored at (fixed digits x) (now (out .entry)) (now (out .exit)) r ⌝ }
-    ensures { λ r. ⌜ r ≤ at + (13 + digits) ⌝ }
+    ensures out { λ r. ⌜ Stored at (fixed digits x) (now (out .entry)) (now (out .exit)) r ⌝ }
+    ensures most { λ r. ⌜ r ≤ at + (13 + digits) ⌝ }
 {
     let a = put_byte(out, at, b' ');
     if is_far(x) {

@@ -29,9 +29,9 @@ fn room() -> [u8; 1024]
 // `version 3 agreement 0.981 mirrored no corners 12.3 45.6 78.9 45.2 79.0 112.4 12.1 112.8`, corners
 // in the ring's own order, x then y; `none` where there is no tag; `refused N` for a refusal.
 pub fn text(a: Answer) -> Printed
-    ensures { λ r. ⌜ r .bytes ≡ filled (answerText a) ⌝ }
-    ensures { λ r. ⌜ r .len ≡ length (answerText a) ⌝ }
-    ensures { λ r. ⌜ r .len ≤ length (r .bytes) ⌝ }
+    ensures bytes { λ r. ⌜ r .bytes ≡ filled (answerText a) ⌝ }
+    ensures len { λ r. ⌜ r .len ≡ length (answerText a) ⌝ }
+    ensures most { λ r. ⌜ r .len ≤ length (r .bytes) ⌝ }
 {
     let mut bytes = room();
     let end = lines::put_text(&mut bytes, a);
@@ -43,9 +43,9 @@ pub fn text(a: Answer) -> Printed
 
 // The text of a refusal before there is an answer.
 pub fn refused(n: u32) -> Printed
-    ensures { λ r. ⌜ r .bytes ≡ filled (lineOf refusedWord (n ∷ [])) ⌝ }
-    ensures { λ r. ⌜ r .len ≡ length (lineOf refusedWord (n ∷ [])) ⌝ }
-    ensures { λ r. ⌜ r .len ≤ length (r .bytes) ⌝ }
+    ensures bytes { λ r. ⌜ r .bytes ≡ filled (lineOf refusedWord (n ∷ [])) ⌝ }
+    ensures len { λ r. ⌜ r .len ≡ length (lineOf refusedWord (n ∷ [])) ⌝ }
+    ensures most { λ r. ⌜ r .len ≤ length (r .bytes) ⌝ }
 {
     let mut bytes = room();
     let end = lines::put_refused(&mut bytes, 0, n);

@@ -22,8 +22,8 @@ ghost use Rattle.tag_text.specs.Lines.{tagLine, tagLines, tagsText, answ
 // A number, a space before it.
 pub(crate) fn put_count(out: &mut [u8], at: usize, n: u32) -> usize
     requires { ⌜ at + 11 ≤ length (now out) ⌝ }
-    ensures { λ r. ⌜ Stored at (32 ∷ decimal n) (now (out .entry)) (now (out .exit)) r ⌝ }
-    ensures { λ r. ⌜ r ≤ at + 11 ⌝ }
+    ensures out { λ r. ⌜ Stored at (32 ∷ decimal n) (now (out .entry)) (now (out .exit)) r ⌝ }
+    ensures most { λ r. ⌜ r ≤ at + 11 ⌝ }
 {
     put_spaced(out, at, n as usize)
 }
@@ -31,8 +31,8 @@ pub(crate) fn put_count(out: &mut [u8], at: usize, n: u32) -> usize
 // `yes` or `no`, a space before it.
 fn put_answer(out: &mut [u8], at: usize, yes: bool) -> usize
     requires { ⌜ at + 4 ≤ length (now out) ⌝ }
-    ensures { λ r. ⌜ Stored at (yesOrNo yes) (now (out .entry)) (now (out .exit)) r ⌝ }
-    ensures { λ r. ⌜ r ≤ at + 4 ⌝ }
+    ensures out { λ r. ⌜ Stored at (yesOrNo yes) (now (out .entry)) (now (out .exit)) r ⌝ }
+    ensures most { λ r. ⌜ r ≤ at + 4 ⌝ }
 {
     if yes {
         return put_word(out, at, b" yes");
@@ -43,8 +43,8 @@ fn put_answer(out: &mut [u8], at: usize, yes: bool) -> usize
 // A point, x then y, to a tenth of a pixel.
 fn put_point(out: &mut [u8], at: usize, p: Point) -> usize
     requires { ⌜ at + 28 ≤ length (now out) ⌝ }
-    ensures { λ r. ⌜ Stored at (pointText p) (now (out .entry)) (now (out .exit)) r ⌝ }
-    ensures { λ r. ⌜ r ≤ at + 28 ⌝ }
+    ensures out { λ r. ⌜ Stored at (pointText p) (now (out .entry)) (now (out .exit)) r ⌝ }
+    ensures most { λ r. ⌜ r ≤ at + 28 ⌝ }
 {
     let a = put_fixed(out, at, p.x, 1, 10);
     put_fixed(out, a, p.y, 1, 10)
@@ -53,8 +53,8 @@ fn put_point(out: &mut [u8], at: usize, p: Point) -> usize
 // Four corners in their order.
 fn put_corners(out: &mut [u8], at: usize, q: Quad) -> usize
     requires { ⌜ at + 112 ≤ length (now out) ⌝ }
-    ensures { λ r. ⌜ Stored at (cornersText q) (now (out .entry)) (now (out .exit)) r ⌝ }
-    ensures { λ r. ⌜ r ≤ at + 112 ⌝ }
+    ensures out { λ r. ⌜ Stored at (cornersText q) (now (out .entry)) (now (out .exit)) r ⌝ }
+    ensures most { λ r. ⌜ r ≤ at + 112 ⌝ }
 {
     let first = q.a;
     let second = q.b;
@@ -69,9 +69,9 @@ fn put_corners(out: &mut [u8], at: usize, q: Quad) -> usize
 // What a tag is: version, agreement to a thousandth.
 fn put_ring(out: &mut [u8], at: usize, version: u8, agreement: f32) -> usize
     requires { ⌜ at + 44 ≤ length (now out) ⌝ }
-    ensures { λ r. ⌜
+    ensures out { λ r. ⌜
         Stored at (ringText version agreement) (now (out .entry)) (now (out .exit)) r ⌝ }
-    ensures { λ r. ⌜ r ≤ at + 44 ⌝ }
+    ensures most { λ r. ⌜ r ≤ at + 44 ⌝ }
 {
     let a = put_word(out, at, b"version");
     let b = put_count(out, a, version as u32);
@@ -82,9 +82,9 @@ fn put_ring(out: &mut [u8], at: usize, version: u8, agreement: f32) -> usize
 // How it lies: whether it is mirrored, corners; and the end of the line.
 fn put_pose(out: &mut [u8], at: usize, mirrored: bool, corners: Quad) -> usize
     requires { ⌜ at + 134 ≤ length (now out) ⌝ }
-    ensures { λ r. ⌜
+    ensures out { λ r. ⌜
         Stored at (poseText mirrored corners) (now (out .entry)) (now (out .exit)) r ⌝ }
-    ensures { λ r. ⌜ r ≤ at + 134 ⌝ }
+    ensures most { λ r. ⌜ r ≤ at + 134 ⌝ }
 {
     let a = put_word(out, at, b" mirrored");
     let b = put_answer(out, a, mirrored);
@@ -96,8 +96,8 @@ fn put_pose(out: &mut [u8], at: usize, mirrored: bool, corners: Quad) -> usize
 // The line of a tag.
 fn put_tag(out: &mut [u8], at: usize, t: Tag) -> usize
     requires { ⌜ at + 178 ≤ length (now out) ⌝ }
-    ensures { λ r. ⌜ Stored at (tagLine t) (now (out .entry)) (now (out .exit)) r ⌝ }
-    ensures { λ r. ⌜ r ≤ at + 178 ⌝ }
+    ensures out { λ r. ⌜ Stored at (tagLine t) (now (out .entry)) (now (out .exit)) r ⌝ }
+    ensures most { λ r. ⌜ r ≤ at + 178 ⌝ }
 {
     let corners = t.corners;
     let a = put_ring(out, at, t.version, t.agreement);
@@ -107,8 +107,8 @@ fn put_tag(out: &mut [u8], at: usize, t: Tag) -> usize
 // The lines of the first n tags.
 fn put_list(out: &mut [u8], at: usize, list: [Tag; 4], n: usize) -> usize
     requires { ⌜ (n ≤ 4) × (at + 178 * n ≤ length (now out)) ⌝ }
-    ensures { λ r. ⌜ Stored at (tagLines list n) (now (out .entry)) (now (out .exit)) r ⌝ }
-    ensures { λ r. ⌜ r ≤ at + 178 * n ⌝ }
+    ensures out { λ r. ⌜ Stored at (tagLines list n) (now (out .entry)) (now (out .exit)) r ⌝ }
+    ensures most { λ r. ⌜ r ≤ at + 178 * n ⌝ }
 {
     let mut to = at;
     let mut k: usize = 0;
@@ -132,8 +132,8 @@ fn at_most_four(n: usize) -> usize
 // The lines of the tags, or `none`.
 fn put_tags(out: &mut [u8], t: Tags) -> usize
     requires { ⌜ 712 ≤ length (now out) ⌝ }
-    ensures { λ r. ⌜ Stored 0 (tagsText t) (now (out .entry)) (now (out .exit)) r ⌝ }
-    ensures { λ r. ⌜ r ≤ 712 ⌝ }
+    ensures out { λ r. ⌜ Stored 0 (tagsText t) (now (out .entry)) (now (out .exit)) r ⌝ }
+    ensures most { λ r. ⌜ r ≤ 712 ⌝ }
 {
     let n = at_most_four(t.many);
     if n == 0 {
@@ -146,9 +146,9 @@ fn put_tags(out: &mut [u8], t: Tags) -> usize
 // The line of a refusal.
 pub(crate) fn put_refused(out: &mut [u8], at: usize, n: u32) -> usize
     requires { ⌜ at + 19 ≤ length (now out) ⌝ }
-    ensures { λ r. ⌜
+    ensures out { λ r. ⌜
         Stored at (lineOf refusedWord (n ∷ [])) (now (out .entry)) (now (out .exit)) r ⌝ }
-    ensures { λ r. ⌜ r ≤ at + 19 ⌝ }
+    ensures most { λ r. ⌜ r ≤ at + 19 ⌝ }
 {
     let a = put_word(out, at, b"refused");
     let b = put_count(out, a, n);
@@ -158,8 +158,8 @@ pub(crate) fn put_refused(out: &mut [u8], at: usize, n: u32) -> usize
 // The text of an answer.
 pub(crate) fn put_text(out: &mut [u8], a: Answer) -> usize
     requires { ⌜ 712 ≤ length (now out) ⌝ }
-    ensures { λ r. ⌜ Stored 0 (answerText a) (now (out .entry)) (now (out .exit)) r ⌝ }
-    ensures { λ r. ⌜ r ≤ 712 ⌝ }
+    ensures out { λ r. ⌜ Stored 0 (answerText a) (now (out .entry)) (now (out .exit)) r ⌝ }
+    ensures most { λ r. ⌜ r ≤ 712 ⌝ }
 {
     let outcome = a.outcome;
     let tags = a.tags;

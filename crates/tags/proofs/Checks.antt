@@ -3,21 +3,21 @@
 --   taken-passes, answer-taken                        no check refuses, and the answer
 --   part-taken                                        the pixels of a file that has been read
 -- Assumes nothing.
-use mathlib.Core.Path.{_≡_, refl, sym, ap, _∙_}
+use mathlib.Core.Path.{_≡_, sym, ap, _∙_}
 use mathlib.Core.List.{List}
-use Prim.Native.Nat.{ℕ, _+_, _-_, _*_, _/_, _≤_}
+use Prim.Native.Nat.{ℕ, _+_, _-_, _*_, _≤_}
 use native.Mathlib.Nat.{mul-le-mul}
 use native.Mathlib.Omega.{arith}
 use lib.ListN.{length, take, drop, length-take, length-drop}
 use borrow.Author.Tests.{le-leb, eq-eqb}
 use Rattle.levels.specs.Level.{cells}
-use Rattle.regions.specs.Cells.{cells8, cellsOf}
+use Rattle.labels.specs.Cells.{cells8, cellsOf}
 use Rattle.region_outline.specs.Region.{needOf}
 use Rattle.finder.specs.Find.{checkFind}
 use Rattle.tray.specs.Input.{FileAt}
 use Rattle.tag_list.specs.Tags.{tagsBy}
 use Rattle.tag_list.specs.declared.Answer.{Answer}
-use Rattle.tags.specs.Taken.{Taken}
+use Rattle.tags.specs.Taken.{TagsPicture}
 
 module _ (w h : ℕ) (wide : w ≤ 2048) (high : h ≤ 2048) where
   cells-few : cells w * cells h ≤ 16384
@@ -38,7 +38,7 @@ module _ (w h : ℕ) (wide : w ≤ 2048) (high : h ≤ 2048) where
   pub pixels-few : w * h ≤ 4194304
   pixels-few = mul-le-mul {n₁ = w} {m₁ = h} {n₂ = 2048} {m₂ = 2048} wide high
 
-pub taken-passes : (w h bytes : ℕ) → Taken w h bytes → checkFind w h bytes 16384 65536 65536 16384 16384 16384 16384 64 ≡ 0
+pub taken-passes : (w h bytes : ℕ) → TagsPicture w h bytes → checkFind w h bytes 16384 65536 65536 16384 16384 16384 16384 64 ≡ 0
 taken-passes w h bytes t =
     rw (
       le-leb 1 w (t .someWide),
@@ -51,7 +51,7 @@ taken-passes w h bytes t =
       le-leb (needOf w h) 16384 (points-few w h (t .wide) (t .high)),
     )
 
-pub part-taken : (s : List ℕ) (w h at : ℕ) → FileAt 2048 s w h at → Taken w h (length (take (at + w * h - at) (drop at s)))
+pub part-taken : (s : List ℕ) (w h at : ℕ) → FileAt 2048 s w h at → TagsPicture w h (length (take (at + w * h - at) (drop at s)))
 part-taken s w h at f = record {
   someWide = f .someWide;
   wide = f .wide;
@@ -61,7 +61,7 @@ part-taken s w h at f = record {
 }
 
 -- the answer with lists of these lengths
-pub answer-taken : (gray : List ℕ) (w h : ℕ) → Taken w h (length gray) → (r : Answer) {a b c d e f g : ℕ} → 16384 ≡ a → 65536 ≡ b → 65536
+pub answer-taken : (gray : List ℕ) (w h : ℕ) → TagsPicture w h (length gray) → (r : Answer) {a b c d e f g : ℕ} → 16384 ≡ a → 65536 ≡ b → 65536
     ≡ c
     → 16384 ≡ d → 16384 ≡ e → 16384 ≡ f → 16384 ≡ g → r ≡ tagsBy (checkFind w h (length gray) a b c d e f g 64) gray w h 64
     → r ≡ tagsBy 0 gray w h 64

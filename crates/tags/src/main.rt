@@ -9,10 +9,10 @@ use tag_text::Printed;
 ghost use mathlib.Core.Path.{_≡_};
 ghost use Prim.Native.Nat.{_≤_};
 ghost use lib.ListN.{length};
-ghost use Rattle.packed.specs.Rooms.{HasPlaces};
+ghost use Rattle.word_bytes.specs.Inner.{HasPlaces};
 ghost use Rattle.tag_list.specs.Tags.{tagsBy};
 ghost use Rattle.tag_text.specs.Lines.{answerText, filled};
-ghost use Rattle.tags.specs.Taken.{Taken};
+ghost use Rattle.tags.specs.Taken.{TagsPicture};
 
 // Room for a file: 4,096 bytes of a header and 2,048 × 2,048 pixels.
 fn file_room() -> [u8; 4198400]
@@ -44,7 +44,7 @@ fn point_room() -> [f32; 16384]
 
 // The tags of a picture of w × h bytes, of any version. No check refuses it.
 fn tags_of(gray: &[u8], w: usize, h: usize) -> Answer
-    requires { ⌜ Taken w h (length (now gray)) ⌝ }
+    requires { ⌜ TagsPicture w h (length (now gray)) ⌝ }
     ensures { λ r. ⌜ r ≡ tagsBy 0 (now (gray .entry)) w h 64 ⌝ }
 {
     let mut levels = level_room();
@@ -71,10 +71,10 @@ fn tags_of(gray: &[u8], w: usize, h: usize) -> Answer
 
 // The text of the tags of a picture.
 fn text_of(gray: &[u8], w: usize, h: usize) -> Printed
-    requires { ⌜ Taken w h (length (now gray)) ⌝ }
-    ensures { λ r. ⌜ r .bytes ≡ filled (answerText (tagsBy 0 (now (gray .entry)) w h 64)) ⌝ }
-    ensures { λ r. ⌜ r .len ≡ length (answerText (tagsBy 0 (now (gray .entry)) w h 64)) ⌝ }
-    ensures { λ r. ⌜ r .len ≤ length (r .bytes) ⌝ }
+    requires { ⌜ TagsPicture w h (length (now gray)) ⌝ }
+    ensures bytes { λ r. ⌜ r .bytes ≡ filled (answerText (tagsBy 0 (now (gray .entry)) w h 64)) ⌝ }
+    ensures len { λ r. ⌜ r .len ≡ length (answerText (tagsBy 0 (now (gray .entry)) w h 64)) ⌝ }
+    ensures most { λ r. ⌜ r .len ≤ length (r .bytes) ⌝ }
 {
     tag_text::text(tags_of(gray, w, h))
 }

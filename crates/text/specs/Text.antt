@@ -1,4 +1,4 @@
--- Text in ASCII, as document 01 has it under "traylist": numbers in decimal and in hex, and lines of a word, of numbers with a space before
+-- Text in ASCII, by rules 43 and 44: numbers in decimal and in hex, and lines of a word, of numbers with a space before
 -- each and of a line feed. Definitions only. Assumes nothing.
 use mathlib.Core.Bool.{cond}
 use mathlib.Core.List.{List, [], _∷_, _++_}

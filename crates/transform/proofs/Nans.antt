@@ -5,9 +5,8 @@ use mathlib.Core.Path.{_≡_, refl, sym, ap, _∙_}
 use mathlib.Core.Bool.{Bool, true, false, cond}
 use lib.Ieee.{Float, nan, inf, fin, Format, binary64, add, sub, mul, div, eq}
 use Rattle.ieee.specs.Narrow.{narrow}
-use Rattle.transform.specs.Mapping.{zero, plane, bent, rounds, aboutCentre, throughLens, flatPlace, rounded, applied, noPixel}
+use Rattle.transform.specs.Mapping.{zero, planePlace, bent, fourRounds, aboutCentre, throughLens, flatPlace, rounded, applied, noPixel}
 use Rattle.transform.specs.declared.Transform.{Transform}
-use Rattle.transform.specs.declared.Pixel.{Pixel}
 use Rattle.transform.specs.declared.Place.{Place}
 
 mul-nan : (f : Format) (x : Float) → mul f x nan ≡ nan
@@ -23,11 +22,11 @@ add-nan f (inf s) = refl
 add-nan f (fin s m e) = refl
 
 -- a coordinate before the division
-plane-l : (a b c v : Float) → plane a b c nan v ≡ nan
+plane-l : (a b c v : Float) → planePlace a b c nan v ≡ nan
 unfolding add
 plane-l a b c v = ap (λ (z : Float). add binary64 (add binary64 z (mul binary64 b v)) c) (mul-nan binary64 a)
 
-plane-r : (a b c u : Float) → plane a b c u nan ≡ nan
+plane-r : (a b c u : Float) → planePlace a b c u nan ≡ nan
 unfolding add
 plane-r a b c u =
     ap (λ (z : Float). add binary64 (add binary64 (mul binary64 a u) z) c) (mul-nan binary64 b)
@@ -52,7 +51,7 @@ unfolding flatPlace
 flat-r t u = both _ _ _ (plane-r (t .m0) (t .m1) (t .m2) u) (plane-r (t .m3) (t .m4) (t .m5) u)
 
 centre-nan : (cx cy k : Float) → aboutCentre cx cy k nowhere ≡ nowhere
-unfolding aboutCentre rounds bent sub add div
+unfolding aboutCentre fourRounds bent sub add div
 centre-nan cx cy k =
     let at : Float → Float → Place = λ a b. record { x = a; y = b } in
     ap (λ (z : Float). at z (add binary64 cy nan)) (add-nan binary64 cx) ∙ ap (at nan) (add-nan binary64 cy)

@@ -1,4 +1,11 @@
--- The definitions of the mapping, from what each call gives. Assumes nothing.
+-- The definitions of the mapping, from what each call gives.
+--     the divisor: guarded-near, guarded-low, guarded-high
+--     the lens: place, lens-none, lens-some
+--     a place's pixel: flat-is, applied-is
+--     the transform: radial-is
+--     four corners: corner-is, quad-is
+--     lists of numbers that are equal one by one: cons-cong
+-- Assumes nothing.
 use mathlib.Core.Path.{refl, _≡_, sym, ap, _∙_}
 use mathlib.Core.List.{List, [], _∷_, _++_}
 use mathlib.Core.Bool.{_&&_, false≢true, Bool, true, false, cond}
@@ -16,26 +23,8 @@ use Rattle.ieee.specs.Ops.{abs}
 use Rattle.math.specs.Equations.{solution}
 use Rattle.math.specs.declared.Found.{Found}
 use Rattle.math.specs.declared.Solution.{Solution}
-use Rattle.transform.specs.Mapping.{
-  zero,
-  one,
-  corner,
-  matrix,
-  numbers,
-  fromSolution,
-  fromQuad,
-  withRadial,
-  guarded,
-  plane,
-  bent,
-  rounds,
-  aboutCentre,
-  throughLens,
-  flatPlace,
-  rounded,
-  applied,
-}
-use Rattle.ieee.specs.Constants.{1e-9}
+use Rattle.transform.specs.Mapping.{zero, cornerRows, matrix, numbers, fromSolution, fromQuad, withRadial, guarded, planePlace, bent, fourRounds, aboutCentre, throughLens, flatPlace, rounded, applied}
+use Rattle.ieee.specs.Constants.{1d, 1e-9}
 use Rattle.transform.specs.declared.Transform.{Transform}
 use Rattle.transform.specs.declared.Pixel.{Pixel}
 use Rattle.transform.specs.declared.Place.{Place}
@@ -111,7 +100,7 @@ lens-none cx cy k p e = sym (ap (λ (b : Bool). cond b p (aboutCentre cx cy k p)
 pub lens-some : (cx cy k : Float) (p u d1 d2 d3 d4 : Place) → eq k zero ≡ false
     → u ≡ place (sub binary64 (p .x) cx) (sub binary64 (p .y) cy) → d1 ≡ bent k u u → d2 ≡ bent k u d1 → d3 ≡ bent k u d2 → d4 ≡ bent k u d3
     → place (add binary64 cx (d4 .x)) (add binary64 cy (d4 .y)) ≡ throughLens cx cy k p
-unfolding throughLens aboutCentre rounds
+unfolding throughLens aboutCentre fourRounds
 lens-some cx cy k p u d1 d2 d3 d4 e eu e1 e2 e3 e4 =
     let shift : Place → Place = λ d. place (add binary64 cx (d .x)) (add binary64 cy (d .y)) in
     ap shift (e4 ∙ ap (bent k u) (e3 ∙ ap (bent k u) (e2 ∙ ap (bent k u) e1)))
@@ -119,11 +108,11 @@ lens-some cx cy k p u d1 d2 d3 d4 e eu e1 e2 e3 e4 =
     ∙ sym (ap (λ (b : Bool). cond b p (aboutCentre cx cy k p)) e)
 
 -- ---- a place's pixel
-pub flat-is : (t : Transform) (u v w : Float) → w ≡ guarded (plane (t .m6) (t .m7) one u v)
-    → place (div binary64 (plane (t .m0) (t .m1) (t .m2) u v) w) (div binary64 (plane (t .m3) (t .m4) (t .m5) u v) w) ≡ flatPlace t u v
+pub flat-is : (t : Transform) (u v w : Float) → w ≡ guarded (planePlace (t .m6) (t .m7) 1d u v)
+    → place (div binary64 (planePlace (t .m0) (t .m1) (t .m2) u v) w) (div binary64 (planePlace (t .m3) (t .m4) (t .m5) u v) w) ≡ flatPlace t u v
 unfolding flatPlace
 flat-is t u v w e =
-    ap (λ (z : Float). place (div binary64 (plane (t .m0) (t .m1) (t .m2) u v) z) (div binary64 (plane (t .m3) (t .m4) (t .m5) u v) z)) e
+    ap (λ (z : Float). place (div binary64 (planePlace (t .m0) (t .m1) (t .m2) u v) z) (div binary64 (planePlace (t .m3) (t .m4) (t .m5) u v) z)) e
 
 pub applied-is : (t : Transform) (u v : Float) (p q : Place) (x y : Float) → p ≡ flatPlace t u v
     → q ≡ throughLens (t .cx) (t .cy) (t .kappa) p → x ≡ narrow (q .x) → y ≡ narrow (q .y) → record { x = x; y = y } ≡ applied t u v
@@ -140,11 +129,11 @@ radial-is t cx cy k a b c e f g =
 
 -- ---- four corners
 -- the equations of a corner, stored into all places of a list
-pub corner-is : (u v x y : Float) (l : List Float) → length l ≡ 16 → sets l 0 (corner u v x y []) ≡ corner u v x y []
+pub corner-is : (u v x y : Float) (l : List Float) → length l ≡ 16 → sets l 0 (cornerRows u v x y []) ≡ cornerRows u v x y []
 corner-is u v x y l e =
     let room : 16 ≤ length l = omega arith in
     let over : length l ≤ 16 = omega arith in
-    laid-is (corner u v x y []) l room ∙ ap (λ (r : List Float). corner u v x y [] ++ r) (drop-of-length-le l over)
+    laid-is (cornerRows u v x y []) l room ∙ ap (λ (r : List Float). cornerRows u v x y [] ++ r) (drop-of-length-le l over)
 
 matrix-numbers : (s d : List Float) → matrix (numbers s) (numbers d) ≡ matrix s d
 unfolding matrix

@@ -2,7 +2,7 @@
 ghost use mathlib.Core.Path.{_≡_};
 ghost use mathlib.Core.List.{[]};
 ghost use lib.ListN.{length};
-ghost use Rattle.transform.specs.Mapping.{corner, matrix, numbers};
+ghost use Rattle.transform.specs.Mapping.{cornerRows, matrix, numbers};
 
 // x as an f64, which holds every f32.
 pub fn wide(x: f32) -> f64
@@ -30,7 +30,7 @@ pub fn wide8(s: [f32; 8]) -> [f64; 8]
 // Puts the two equations of a corner into a list of sixteen numbers: (u, v) goes to (x, y).
 fn put_corner(a: &mut [f64], u: f64, v: f64, x: f64, y: f64)
     requires { ⌜ length (now a) ≡ 16 ⌝ }
-    ensures { λ _. ⌜ now (a .exit) ≡ corner u v x y [] ⌝ }
+    ensures { λ _. ⌜ now (a .exit) ≡ cornerRows u v x y [] ⌝ }
 {
     let nx = -x;
     let ny = -y;

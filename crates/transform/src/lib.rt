@@ -3,16 +3,7 @@
 mod corners;
 
 ghost use mathlib.Core.Path.{_≡_};
-ghost use Rattle.transform.specs.Mapping.{homography, fromQuad};
-ghost use Rattle.transform.specs.Mapping.{
-  withRadial,
-  guarded,
-  flatPlace,
-  bent,
-  throughLens,
-  applied,
-  noPixel,
-};
+ghost use Rattle.transform.specs.Mapping.{homography, fromQuad, withRadial, guarded, flatPlace, bent, throughLens, applied, noPixel};
 
 // Eight coefficients and three lens numbers, all f64. The pixel of (u, v) is
 // (m0 u + m1 v + m2, m3 u + m4 v + m5) / (m6 u + m7 v + 1), then bent about (cx, cy) by kappa.

@@ -14,7 +14,7 @@ use lib.ListN.{getD}
 use borrow.Author.Tests.{eq-eqb, eqb-true, le-ltb}
 use Rattle.laws.proofs.Bools.{and-left, and-right, clash, falsely, holds, holds-at}
 use Rattle.pgm.specs.Form.{hasLetters}
-use Rattle.tray.specs.Record.{fourAt, widthOf, heightOf, checkRecord}
+use Rattle.tray.specs.Record.{fourAt, widthOf, heightOf}
 use Rattle.tray.specs.Claims.{LettersApart}
 use Rattle.tray.proofs.Records.{accepted, head-of, head-length}
 

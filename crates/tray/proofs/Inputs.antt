@@ -5,7 +5,7 @@
 --   input-number                   the number of a refusal: at most 15
 --   check-refused, check-found     the number by the answer
 -- Assumes nothing.
-use mathlib.Core.Path.{_≡_, refl, sym, ap, _∙_}
+use mathlib.Core.Path.{_≡_, refl}
 use mathlib.Core.Bool.{Bool, true, false, cond, _&&_}
 use mathlib.Core.List.{List}
 use Prim.Native.Nat.{ℕ, zero, suc, _+_, _*_, _≤_}
@@ -15,8 +15,8 @@ use lib.ListN.{length}
 use borrow.Author.Tests.{leb-true}
 use Rattle.laws.specs.Check.{orRefuse}
 use Rattle.laws.proofs.Bools.{and-right}
-use Rattle.checks.specs.Picture.{isSide}
-use Rattle.checks.proofs.Checked.{check-step, side-in}
+use Rattle.picture_checks.specs.Picture.{isSide}
+use Rattle.picture_checks.proofs.Checked.{check-step, side-in}
 use Rattle.pgm.specs.Form.{hasLetters, hasForm, fileWidth, fileHeight, fileMaximum, fileStart}
 use Rattle.pgm.specs.Doors.{checkHeader, checkPixels, found}
 use Rattle.pgm.specs.declared.File.the-variants.{Picture, Refused}

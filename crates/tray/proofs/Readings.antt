@@ -5,7 +5,7 @@
 --   reads-whole                          the claim: of an accepted input it ends with the pixels
 -- Assumes nothing.
 use mathlib.Core.Path.{_≡_, refl, sym, ap, ap₂, _∙_, subst}
-use mathlib.Core.Bool.{Bool, true, false, cond, _&&_}
+use mathlib.Core.Bool.{Bool, true, false, _&&_}
 use mathlib.Core.Logic.{_⊎_, inl, inr}
 use mathlib.Core.List.{List}
 use Prim.Native.Nat.{ℕ, zero, suc, _+_, _-_, _*_, _≤_, _<_}
@@ -13,9 +13,9 @@ use native.Mathlib.Omega.{arith}
 use lib.Dec.{leb, lit≤}
 use lib.ListN.{length, take, drop, length-take, length-drop}
 use lib.Seq.{getD-take, take-all}
-use Rattle.laws.proofs.Bools.{le-or-lt, which, clash, falsely}
+use Rattle.laws.proofs.Bools.{le-or-lt, which, falsely}
 use Rattle.laws.specs.Check.{orRefuse}
-use Rattle.checks.proofs.Checked.{Gate, gate-zero}
+use Rattle.picture_checks.proofs.Checked.{Gate, gate-zero}
 use Rattle.pgm.specs.Form.{hasLetters, hasForm, fileWidth, fileHeight, fileStart}
 use Rattle.pgm.specs.Doors.{checkHeader, checkPixels}
 use Rattle.pgm.specs.Steps.{begun, isEnded, isWhole, stepsOver}
@@ -24,11 +24,10 @@ use Rattle.pgm.specs.declared.steps.Reading.{Reading}
 use Rattle.pgm.proofs.Beside.{Outcome, steps-header}
 use Rattle.pgm.proofs.Counted.{at-grows, at-all, whole-later, told}
 use Rattle.pgm.proofs.Heads.{Fits, fits, header-gate}
-use Rattle.tray.specs.Record.{widthOf, heightOf, checkRecord, isHead, asked}
+use Rattle.tray.specs.Record.{widthOf, heightOf, checkRecord, asked}
 use Rattle.tray.specs.Input.{checkSides, checkFileTo, checkTrayFile, checkInput, inputWidth, inputHeight, inputStart, inputPixels}
 use Rattle.tray.specs.Input.{headRead, askedBy, reads}
 use Rattle.tray.specs.Claims.{ReadsWhole}
-use Rattle.tray.proofs.Records.{head-of}
 use Rattle.tray.proofs.Files.{sides-gate, sides-same, asked-some}
 use Rattle.tray.proofs.Headers.{head-through, ended-through, not-whole}
 use Rattle.tray.proofs.Kept as kept

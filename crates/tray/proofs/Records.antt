@@ -1,10 +1,10 @@
 -- Laws of the record. Its head check by check: side-in, side-of, none-short to asked-all; small-area, area-small. The record by its head:
 -- check-by, head-length, asked-yes, check-yes, asked-no, check-no, head-of, refuse-head, refuse-cut, check-whole. What an accepted
 -- record is: Accepted with accepted. Its answer: refused-record, found-record. Assumes nothing.
-use mathlib.Core.Path.{_≡_, refl, sym, ap, ap₂, _∙_, subst}
+use mathlib.Core.Path.{_≡_, refl, sym, ap, ap₂, _∙_}
 use mathlib.Core.Bool.{Bool, true, false, _&&_, cond}
 use mathlib.Core.List.{List}
-use Prim.Native.Nat.{ℕ, _+_, _-_, _*_, _≤_, _<_}
+use Prim.Native.Nat.{ℕ, _+_, _*_, _≤_, _<_}
 use native.Mathlib.Nat.{mul-le-mul}
 use native.Mathlib.Omega.{arith}
 use lib.Dec.{leb, eqb}
@@ -12,7 +12,7 @@ use lib.ListN.{length}
 use borrow.Author.Tests.{leb-true, eqb-true, le-leb, lt-leb, eq-eqb, ne-eqb}
 use Rattle.laws.specs.Check.{orRefuse}
 use Rattle.laws.proofs.Bools.{and-left, and-right}
-use Rattle.checks.proofs.Checked.{check-step}
+use Rattle.picture_checks.proofs.Checked.{check-step}
 use Rattle.pgm.specs.Doors.{found}
 use Rattle.pgm.specs.declared.File.the-variants.{Picture, Refused}
 use Rattle.pgm.proofs.Gates.{refused-is}

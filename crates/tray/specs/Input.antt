@@ -17,15 +17,15 @@ use Rattle.tray.specs.Record.{widthOf, heightOf, checkRecord, asked}
 
 -- ---- a file with sides up to `most`
 -- 13: a side over `most`. What follows is `rest`.
-abbrev pub sidesTo : ℕ → ℕ → ℕ → ℕ → ℕ
-sidesTo most w h rest =
+abbrev pub sidesUpTo : ℕ → ℕ → ℕ → ℕ → ℕ
+sidesUpTo most w h rest =
     orRefuse (leb w most) 13
     (orRefuse (leb h most) 13
     rest)
 
 -- The checks of a file: 14, 15 and 1, then 13, then 2.
 unfoldable pub checkFileTo : ℕ → List ℕ → ℕ
-checkFileTo most s = checkHeader s (sidesTo most (fileWidth s) (fileHeight s) (checkPixels s))
+checkFileTo most s = checkHeader s (sidesUpTo most (fileWidth s) (fileHeight s) (checkPixels s))
 
 -- The answer for the number of a refusal, or the sides and the place of the pixels.
 unfoldable pub fileTo : ℕ → List ℕ → File
@@ -33,7 +33,7 @@ fileTo most s = found (checkFileTo most s) (fileWidth s) (fileHeight s) (fileSta
 
 -- The tray list's.
 abbrev pub checkSides : ℕ → ℕ → ℕ → ℕ
-checkSides = sidesTo 160
+checkSides = sidesUpTo 160
 
 abbrev pub checkTrayFile : List ℕ → ℕ
 checkTrayFile = checkFileTo 160
@@ -66,7 +66,7 @@ headRead s = stepsOver begun (drop 2 s)
 
 -- How many bytes of pixels a header asks for; one that is refused asks for none.
 unfoldable pub askedTo : ℕ → Reading → ℕ
-askedTo most h = cond (eqb (checkHead h (sidesTo most (h .width) (h .height) 0)) 0) (h .width * h .height) 0
+askedTo most h = cond (eqb (checkHead h (sidesUpTo most (h .width) (h .height) 0)) 0) (h .width * h .height) 0
 
 abbrev pub askedBy : Reading → ℕ
 askedBy = askedTo 160
@@ -86,6 +86,6 @@ pub record FileAt (most : ℕ) (s : List ℕ) (w h at : ℕ) : Type 0 where
   pub within : at + w * h ≤ length s
 
 -- What passed checks of a header's sides tell.
-pub record Small (most : ℕ) (h : Reading) : Type 0 where
+pub record SidesUpTo (most : ℕ) (h : Reading) : Type 0 where
   pub wide : h .width ≤ most
   pub high : h .height ≤ most

@@ -1,4 +1,4 @@
--- The record, as document 01 has it under "traylist": four-byte length of the rest, two-byte kind, two-byte width and height, pixels;
+-- The record, by rules 43 and 44: four-byte length of the rest, two-byte kind, two-byte width and height, pixels;
 -- lowest byte first. Definitions only. Assumes nothing.
 use mathlib.Core.Bool.{Bool, _&&_, cond}
 use mathlib.Core.List.{List}

@@ -6,12 +6,12 @@ ghost use mathlib.Core.Path.{_≡_};
 ghost use Prim.Native.Nat.{_*_, _≤_};
 ghost use Rattle.pgm.specs.Form.{hasLetters};
 ghost use Rattle.pgm.specs.Head.{checkHead};
-ghost use Rattle.tray.specs.Input.{sidesTo, fileTo, askedTo, Small};
+ghost use Rattle.tray.specs.Input.{sidesUpTo, fileTo, askedTo, SidesUpTo};
 
 // The number of the first check of a header that fails, 14, 15, 1 or 13; else 0.
 fn check(h: Reading, most: usize) -> u32
-    ensures { λ r. ⌜ r ≡ checkHead h (sidesTo most (h .width) (h .height) 0) ⌝ }
-    ensures { λ r. ⌜ (r ≡ 0 → Small most h) ⌝ }
+    ensures answer { λ r. ⌜ r ≡ checkHead h (sidesUpTo most (h .width) (h .height) 0) ⌝ }
+    ensures passed { λ r. ⌜ (r ≡ 0 → SidesUpTo most h) ⌝ }
 {
     let n = pgm::head::check_head(h);
     if n != 0 {
@@ -29,8 +29,8 @@ fn check(h: Reading, most: usize) -> u32
 // How many bytes of pixels a header asks for; 0 where it is refused.
 pub fn pixels(h: Reading, most: usize) -> usize
     requires { ⌜ most ≤ 4096 ⌝ }
-    ensures { λ r. ⌜ r ≡ askedTo most h ⌝ }
-    ensures { λ r. ⌜ r ≤ most * most ⌝ }
+    ensures answer { λ r. ⌜ r ≡ askedTo most h ⌝ }
+    ensures most { λ r. ⌜ r ≤ most * most ⌝ }
 {
     if check(h, most) != 0 {
         return 0;

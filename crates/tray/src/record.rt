@@ -4,15 +4,7 @@ ghost use mathlib.Core.Path.{_≡_};
 ghost use Prim.Native.Nat.{_+_, _*_, _<_, _≤_};
 ghost use lib.ListN.{length};
 ghost use Rattle.pgm.specs.Doors.{found};
-ghost use Rattle.tray.specs.Record.{
-  pairAt,
-  fourAt,
-  widthOf,
-  heightOf,
-  isTraySide,
-  checkRecord,
-  asked,
-};
+ghost use Rattle.tray.specs.Record.{pairAt, fourAt, widthOf, heightOf, isTraySide, checkRecord, asked};
 
 fn byte(b: u8) -> usize
     ensures { λ r. ⌜ (r ≡ b) × (r < 256) ⌝ }
@@ -47,8 +39,8 @@ fn is_side(n: usize) -> bool
 
 // How many bytes of pixels a head asks for; 0 where it is refused.
 pub fn pixels(head: &[u8]) -> usize
-    ensures { λ r. ⌜ r ≡ asked (now (head .entry)) ⌝ }
-    ensures { λ r. ⌜ r ≤ 25600 ⌝ }
+    ensures answer { λ r. ⌜ r ≡ asked (now (head .entry)) ⌝ }
+    ensures most { λ r. ⌜ r ≤ 25600 ⌝ }
 {
     if head.len() < 10 {
         return 0;

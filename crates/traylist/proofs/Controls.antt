@@ -1,14 +1,13 @@
--- Closed cases whose answers come from document 01: the four lines of its example, `quad none`, and the listing of a record that is short.
+-- Closed cases whose answers come from outside: the four lines of README's example, `quad none`, and the listing of a record that is short.
 -- By computation. Assumes nothing.
 use mathlib.Core.Path.{_≡_, refl}
-use mathlib.Core.List.{List, [], _∷_}
-use Prim.Native.Nat.{ℕ}
+use mathlib.Core.List.{[], _∷_}
 use Rattle.hull.specs.Points.{numbersOf}
-use Rattle.text.specs.Text.{spelt, decimal, spaced, lineOf, quadWord}
-use Rattle.listing.specs.Listing.{regionsWord, regionWord, outlineWord}
+use Rattle.text.specs.Text.{spelt, decimal, spaced, lineOf}
+use Rattle.traylist_text.specs.Listing.{regionsWord, regionWord, outlineWord}
 use Rattle.pgm.specs.Form.{hasLetters}
 use Rattle.tray.specs.Input.{checkInput}
-use Rattle.listing.specs.Listing.{quadLine, textBy, textOf}
+use Rattle.traylist_text.specs.Listing.{quadLine, textBy, textOf}
 
 -- regions 1 1
 regions-line : lineOf regionsWord (1 ∷ 1 ∷ [])

@@ -13,8 +13,8 @@ ghost use Rattle.tray.specs.Input.{reads};
 // How many bytes of pixels a head of n bytes asks for.
 fn pixels_after(bytes: &[u8], n: usize) -> usize
     requires { ⌜ n ≤ length (now bytes) ⌝ }
-    ensures { λ r. ⌜ r ≡ asked (take n (now (bytes .entry))) ⌝ }
-    ensures { λ r. ⌜ r ≤ 25600 ⌝ }
+    ensures answer { λ r. ⌜ r ≡ asked (take n (now (bytes .entry))) ⌝ }
+    ensures most { λ r. ⌜ r ≤ 25600 ⌝ }
 {
     tray::record::pixels(&bytes[..n])
 }
@@ -22,9 +22,9 @@ fn pixels_after(bytes: &[u8], n: usize) -> usize
 // Reads a record behind its first two bytes, and answers how many bytes there are.
 fn read_record(bytes: &mut [u8]) -> usize
     requires { ⌜ 29696 ≤ length (now bytes) ⌝ }
-    ensures { λ r. ⌜ r ≤ 29696 ⌝ }
-    ensures { λ r. ⌜ r ≤ 10 + asked (take 10 (now (bytes .exit))) ⌝ }
-    ensures { λ _. ⌜ take 2 (now (bytes .exit)) ≡ take 2 (now (bytes .entry)) ⌝ }
+    ensures most { λ r. ⌜ r ≤ 29696 ⌝ }
+    ensures bounds { λ r. ⌜ r ≤ 10 + asked (take 10 (now (bytes .exit))) ⌝ }
+    ensures letters { λ _. ⌜ take 2 (now (bytes .exit)) ≡ take 2 (now (bytes .entry)) ⌝ }
 {
     let head = 2 + read_part(bytes, 2, 8);
     let more = pixels_after(bytes, head);
@@ -34,8 +34,8 @@ fn read_record(bytes: &mut [u8]) -> usize
 // Reads an input, and answers how many bytes: no more than its own bytes ask for.
 fn read_input(bytes: &mut [u8]) -> usize
     requires { ⌜ 29696 ≤ length (now bytes) ⌝ }
-    ensures { λ r. ⌜ r ≤ 29696 ⌝ }
-    ensures { λ r. ⌜ r ≤ reads (now (bytes .exit)) ⌝ }
+    ensures most { λ r. ⌜ r ≤ 29696 ⌝ }
+    ensures bounds { λ r. ⌜ r ≤ reads (now (bytes .exit)) ⌝ }
 {
     let n = read_part(bytes, 0, 2);
     if n < 2 {
@@ -51,7 +51,7 @@ fn read_input(bytes: &mut [u8]) -> usize
 fn print(bytes: &[u8], n: usize)
     requires { ⌜ n ≤ length (now bytes) ⌝ }
 {
-    let l = listing::listing(&bytes[..n]);
+    let l = traylist_text::listing(&bytes[..n]);
     let text = l.bytes;
     let len = l.len;
     io::write_all(STDOUT_FILENO, &text[..len]);

@@ -5,28 +5,27 @@
 --     doors-accept              all of it
 -- Assumes nothing.
 use mathlib.Core.Path.{_≡_, refl, sym, ap, ap₂, _∙_, subst}
-use mathlib.Core.Bool.{Bool, true, false, _&&_}
 use mathlib.Core.List.{List, [], _++_, append-nil}
-use Prim.Native.Nat.{ℕ, zero, suc, _+_, _-_, _*_, _/_, _%_, _<_, _≤_}
+use Prim.Native.Nat.{ℕ, _+_, _-_, _*_, _/_, _%_, _<_, _≤_}
 use native.Mathlib.Omega.{arith}
-use lib.Dec.{leb, ltb, eqb}
+use lib.Dec.{leb, ltb}
 use borrow.Author.Tests.{le-leb, lt-ltb, eq-eqb}
 use lib.ListN.{length, getD}
 use lib.Seq.{drop-nil}
-use Rattle.laws.specs.Check.{orRefuse}
+use Rattle.picture_checks.proofs.Sides.{side-is}
 use Rattle.laws.specs.Fold.{tab}
 use Rattle.laws.specs.Plane.{Plane, plane, drawn, rowwise}
-use Rattle.laws.specs.Move.{Move, still, flipped, turned, sidesOf, wideOf, highOf, moved, placeOf, Box, movedBytes}
+use Rattle.laws.specs.Move.{Move, still, flipped, turned, sidesOf, wideOf, highOf, moved, movedBytes}
 use Rattle.laws.proofs.Bools.{both}
-use Rattle.laws.proofs.Folds.{length-tab, getD-written, length-written}
+use Rattle.laws.proofs.Folds.{length-tab, getD-written}
 use Rattle.laws.proofs.Planes.{place-lt, col-lt, row-lt}
 use Rattle.laws.proofs.Moves.{moved-at, backOf, back-within, place-back, sides-times}
 use Rattle.levels.specs.Level.{cells}
-use Rattle.regions.specs.Cells.{cells8, cellsOf, groupsOf, groupSize}
+use Rattle.labels.specs.Cells.{cells8, cellsOf}
 use Rattle.regions.specs.Kept.{keptCount, keptLabel}
 use Rattle.regions.specs.Boxes.{regionBox}
-use Rattle.checks.specs.Picture.{isSide}
-use Rattle.regions.specs.Door.{checkGrids, region, keptRegions}
+use Rattle.picture.specs.Door.{checkGrids}
+use Rattle.regions.specs.Regions.{region, keptRegions, boxIn}
 use Rattle.regions.specs.declared.answer.Kept.{Kept}
 use Rattle.regions.specs.declared.answer.Region.{Region}
 use Rattle.regions.proofs.Regions.{region-cell, region-in}
@@ -34,18 +33,15 @@ use Rattle.hull.specs.Points.{UpTo}
 use Rattle.boundary.specs.Boundary.{memberAt}
 use Rattle.boundary.proofs.Boundary.{Within}
 use Rattle.boundary.proofs.Outlines.{boundary-within}
-use Rattle.outline.specs.Door.{boxAt, doorPoints}
+use Rattle.outline.specs.Door.{doorPoints}
 use Rattle.outline.proofs.Doors.{points-le}
 use Rattle.turned.specs.Taken.{Taken}
-use Rattle.turned.specs.Calls.{Pictured, regionOf, checkedFor, pointsFor, Outlined, listed}
+use Rattle.turned.specs.Calls.{Pictured, regionOf, checkedFor, pointsFor, Outlined, numbersListed}
 use Rattle.turned.specs.Accepts.{WholeAccepted, DoorsAccept}
 use Rattle.turned.proofs.Calls.{regions-is, region-is, grid-room, label-room, listed-is}
 use Rattle.turned.proofs.Wholes.{whole-accepted}
 
 -- ---- the picture door
-
-side-is : (n : ℕ) → 1 ≤ n → n ≤ 4096 → isSide n ≡ true
-side-is n a b = both (leb 1 n) (leb n 4096) (le-leb 1 n a) (le-leb n 4096 b)
 
 pictures : (W H : ℕ) (s : List ℕ) → Taken 4096 W H s → (grid labels stack : ℕ)
     → cells (16 * W) * cells (16 * H) ≤ grid → cellsOf (16 * W) (16 * H) ≤ labels → cellsOf (16 * W) (16 * H) ≤ stack
@@ -190,26 +186,26 @@ unfolding doorPoints
 points-few s w h c r at lw lh =
     let a = at .right in
     let b = at .bottom in
-    let n = points-le 4 (memberAt (r .label) w s (c .grid) (c .labels)) (boxAt (r .x0) (r .y0) (r .x1) (r .y1)) in
+    let n = points-le 4 (memberAt (r .label) w s (c .grid) (c .labels)) (boxIn r) in
     omega arith
 
 points-up : (s : List ℕ) (w h : ℕ) (c : Pictured s w h) (r : Region) → Inside r w h → w ≤ 4096 → h ≤ 4096 → UpTo 8192 (pointsFor s w h c r)
 unfolding doorPoints
 points-up s w h c r at lw lh q t =
-    let b : Within (boxAt (r .x0) (r .y0) (r .x1) (r .y1)) w h =
+    let b : Within (boxIn r) w h =
     record { across′ = (let l = at .across in omega arith); down′ = (let l = at .down in omega arith); wide = at .right; high = at .bottom } in
-    let k = boundary-within 4 w h (memberAt (r .label) w s (c .grid) (c .labels)) (boxAt (r .x0) (r .y0) (r .x1) (r .y1)) b q t in
+    let k = boundary-within 4 w h (memberAt (r .label) w s (c .grid) (c .labels)) (boxIn r) b q t in
     (omega (arith, k .0, lw), omega (arith, k .1, lh))
 
 wholes : (W H : ℕ) (s : List ℕ) → Taken 4096 W H s → (c : Pictured s (16 * W) (16 * H)) (i : ℕ)
     → i < c .answer .regions .kept → (o : Outlined s (16 * W) (16 * H) c (regionOf s (16 * W) (16 * H) c i))
-    → WholeAccepted (listed (o .answer) (o .list))
+    → WholeAccepted (numbersListed (o .answer) (o .list))
 wholes W H s t c i l o =
     let w = 16 * W in
     let h = 16 * H in
     let r = regionOf s w h c i in
     let at = region-inside W H s t c i l in
-    whole-accepted (pointsFor s w h c r) (listed (o .answer) (o .list)) (listed-is s w h c r o)
+    whole-accepted (pointsFor s w h c r) (numbersListed (o .answer) (o .list)) (listed-is s w h c r o)
     (points-up s w h c r at (t .wide-most) (t .high-most)) (points-few s w h c r at (t .wide-most) (t .high-most))
 
 pub doors-accept : DoorsAccept

@@ -1,6 +1,6 @@
 -- What calls of `convex_hull`, `quad` and `correlate` answer, of moved points and moved marks.
 --     count-is, vertices-is      the vertices that a call lists, of points in doubled coordinates
---     round-long, rot-long       a moved way round has as many points
+--     round-long, rot-length       a moved way round has as many points
 --     none-both                  no quad in both, or in neither
 --     by-floats                  all of these of a picture and of the moved one
 --     marks-moved                the eight counts of moved marks
@@ -8,19 +8,19 @@
 use mathlib.Core.Path.{_≡_, refl, sym, ap, ap₂, _∙_, subst}
 use mathlib.Core.Logic.{_↔_}
 use mathlib.Core.Bool.{Bool, true, false, cond}
-use mathlib.Core.List.{List, [], _∷_, _++_, map, reverse}
-use Prim.Native.Nat.{ℕ, zero, suc, _+_, _*_, _<_, _≤_}
+use mathlib.Core.List.{List, map, reverse}
+use Prim.Native.Nat.{ℕ, zero, suc, _*_, _<_}
 use native.Mathlib.Omega.{arith}
-use lib.Dec.{leb, eqb}
 use borrow.Author.Tests.{le-leb, eq-eqb}
 use lib.Ieee.{Float}
-use lib.ListN.{length, getD, take, drop, length-append, length-map, length-reverse}
+use lib.ListN.{length, getD, take, drop, length-map, length-reverse}
 use lib.Seq.{take-at}
+use Rattle.whole.proofs.Reordered.{rot-length}
 use Rattle.laws.specs.Move.{Move, isFlipped}
 use Rattle.whole.specs.Points.{Pt, Rot}
-use Rattle.whole.specs.Moves.{pointOf, movedRound}
+use Rattle.whole.specs.Moves.{movedPoint, movedRound}
 use Rattle.laws.specs.Lent.{laid}
-use Rattle.hull.specs.Points.{many, ptOf, ptsOf, numbersOf, floatsOf}
+use Rattle.hull.specs.Points.{many, ptOf, ptsOf, floatsOf}
 use Rattle.hull.specs.Hull.{hullOf, hullFloats, hullPoints}
 use Rattle.hull.specs.Door.{verticesAfter}
 use Rattle.hull.specs.Quad.{quadPoints, quadFloats, valuesOf}
@@ -28,16 +28,15 @@ use Rattle.hull.specs.declared.Hulled.{Hulled}
 use Rattle.hull.specs.declared.Hulled.the-variants.{Vertices}
 use Rattle.hull.specs.declared.points.Corners.{Corners}
 use Rattle.hull.specs.declared.points.Corners.the-variants.{Found, NoQuad}
-use Rattle.outline.proofs.Writes.{length-floats}
-use Rattle.lcr_core.specs.Version.{IsVersion, isVersion, positionsOf}
-use Rattle.marks.specs.Pose.{MarkMove, MarksMoved, cornerTo, reversedTo, agreement, countsOf}
+use Rattle.lcr_core.specs.Version.{IsVersion, positionsOf}
+use Rattle.marks.specs.Pose.{cornerTo, reversedTo, agreement, countsOf}
 use Rattle.marks.specs.Doors.{correlateAnswer, markedPose, countsBeside}
 use Rattle.marks.specs.declared.correlate.Best.{Best}
 use Rattle.marks.proofs.PosesMoved.{poses-moved}
 use Rattle.turned.specs.Calls.{HullCall, countOf, verticesOf, QuadCall, CorrelateCall}
 use Rattle.turned.specs.Outlines.{ShapesAlike, ByFloats}
 use Rattle.turned.specs.Doors.{countAt, MarkDoorMoved}
-use Rattle.turned.proofs.Floats.{many-floats, hull-floats, quad-floats}
+use Rattle.hull.proofs.Floats.{many-floats, hull-floats, quad-floats, length-floats}
 
 -- ---- vertices
 
@@ -71,25 +70,15 @@ round-long : (m : Move) (w h : ℕ) (l : List Pt) → length (movedRound m w h l
 unfolding movedRound
 round-long m w h l = go (isFlipped m)
   where
-    go : (b : Bool) → length (cond b (reverse (map (pointOf m w h) l)) (map (pointOf m w h) l)) ≡ length l
-    go true = length-reverse (map (pointOf m w h) l) ∙ length-map l (pointOf m w h)
-    go false = length-map l (pointOf m w h)
-
-rot-long : (xs ys : List Pt) → Rot xs ys → length xs ≡ length ys
-rot-long xs ys r =
-    omega (
-      arith,
-      ap length (r .2),
-      ap length (r .3),
-      length-append (r .0) (r .1),
-      length-append (r .1) (r .0),
-    )
+    go : (b : Bool) → length (cond b (reverse (map (movedPoint m w h) l)) (map (movedPoint m w h) l)) ≡ length l
+    go true = length-reverse (map (movedPoint m w h) l) ∙ length-map l (movedPoint m w h)
+    go false = length-map l (movedPoint m w h)
 
 pub as-many : (m : Move) (w h : ℕ) (L L′ : List (ℕ × ℕ)) → Rot (movedRound m w h (ptsOf L)) (ptsOf L′) → length L′ ≡ length L
 as-many m w h L L′ r =
     omega (
       arith,
-      rot-long (movedRound m w h (ptsOf L)) (ptsOf L′) r,
+      rot-length (movedRound m w h (ptsOf L)) (ptsOf L′) r,
       round-long m w h (ptsOf L),
       length-map L ptOf,
       length-map L′ ptOf,

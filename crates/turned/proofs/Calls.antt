@@ -7,44 +7,43 @@
 --     points-is, listed-is          the points of the outline door for that region, and the numbers listed
 -- Assumes nothing.
 use mathlib.Core.Path.{_≡_, refl, sym, ap, ap₂, _∙_, subst}
-use mathlib.Core.Bool.{Bool, true, false, cond}
-use mathlib.Core.List.{List, [], _∷_, _++_, map}
+use mathlib.Core.Bool.{Bool, true, false}
+use mathlib.Core.List.{List, _++_, map}
 use Prim.Native.Nat.{ℕ, zero, suc, _+_, _-_, _*_, _<_, _≤_}
 use native.Mathlib.Omega.{arith}
 use native.Mathlib.Nat.{mul-comm}
-use lib.Dec.{leb, ltb, eqb}
+use lib.Dec.{leb, eqb}
 use borrow.Author.Tests.{lt-ltb, leb-true}
 use lib.Ieee.{Float}
-use lib.ListN.{length, getD, take, drop}
+use lib.ListN.{length, getD, drop}
 use lib.Seq.{take-at}
+use Rattle.hull.proofs.Floats.{length-floats}
+use Rattle.laws.proofs.Joined.{joined-ext}
 use Rattle.laws.specs.Check.{orRefuse}
 use Rattle.laws.specs.Plane.{Plane, plane, drawn, rowwise, Alike}
 use Rattle.laws.specs.Move.{Box}
 use Rattle.laws.proofs.Folds.{length-written}
 use Rattle.laws.proofs.Planes.{plane-drawn}
 use Rattle.levels.specs.Level.{cells, level}
-use Rattle.regions.specs.Cells.{cells8, cellsOf, labelAt}
+use Rattle.labels.specs.Cells.{cells8, cellsOf, labelAt}
 use Rattle.regions.specs.Kept.{keptOf, keptCount, keptLabel}
 use Rattle.regions.specs.Boxes.{regionBox}
-use Rattle.checks.specs.Picture.{isSide}
-use Rattle.regions.specs.Door.{noRegion, region, regionAt, keptRegions, checkGrids, answerBy, levelsAfter, labelsAfter}
+use Rattle.picture_checks.specs.Picture.{isSide}
+use Rattle.regions.specs.Regions.{noRegion, region, regionAt, keptRegions}
+use Rattle.picture.specs.Door.{checkGrids, answerBy, levelsAfter, labelsAfter}
 use Rattle.regions.specs.declared.answer.Kept.{Kept}
-use Rattle.regions.specs.declared.answer.PictureAnswer.{PictureAnswer}
+use Rattle.picture.specs.declared.answer.PictureAnswer.{PictureAnswer}
 use Rattle.regions.specs.declared.answer.Region.{Region}
 use Rattle.laws.specs.Lent.{laid}
 use Rattle.hull.specs.Points.{floatsOf}
-use Rattle.boundary.specs.Runs.{edges}
-use Rattle.boundary.specs.Boundary.{memberOf, isMember, memberAt, across, down}
-use Rattle.boundary.specs.Boundary.{rowPoints, columnPoints, rowsFrom, columnsFrom, boundary, outlineOf}
-use Rattle.laws.specs.Fold.{joined}
+use Rattle.boundary.specs.Boundary.{memberOf, isMember, memberAt, onRow, onColumn, rowPoints, columnPoints, rowsFrom, columnsFrom, boundary, outlineOf}
 use Rattle.boundary.proofs.Runs.{edges-ext}
 use Rattle.boundary.proofs.Boundary.{Within}
 use Rattle.boundary.proofs.Members.{member-lists}
-use Rattle.outline.specs.Door.{boxAt, doorPoints, answered, listAfter}
+use Rattle.outline.specs.Door.{doorPoints, outlineBy, listAfter}
 use Rattle.outline.specs.declared.Answer.{Answer}
-use Rattle.outline.specs.declared.Answer.the-variants.{Points, Refused}
-use Rattle.outline.proofs.Writes.{length-floats}
-use Rattle.turned.specs.Calls.{Pictured, regionOf, checkedFor, pointsFor, Outlined, listed}
+use Rattle.outline.specs.declared.Answer.the-variants.{Points}
+use Rattle.turned.specs.Calls.{Pictured, regionOf, pointsFor, Outlined, numbersListed}
 
 -- ---- the picture door
 
@@ -151,12 +150,6 @@ region-is s w h c i l =
 
 -- ---- boundary points by tests that agree
 
-joined-same : {A : Type 0} (n : ℕ) (f g : ℕ → List A) → ((i : ℕ) → i < n → f i ≡ g i) → joined n f ≡ joined n g
-unfolding joined
-joined-same zero f g same = refl
-joined-same {A} (suc n) f g same =
-    ap₂ (λ (a b : List A). a ++ b) (joined-same n f g (λ i l. same i (omega arith))) (same n (omega arith))
-
 inside : (a e n i : ℕ) → e ≤ n → i < e - a → a + i < n
 inside a e n i l b = omega arith
 
@@ -165,14 +158,14 @@ pub boundary-same : (k w h : ℕ) (t u : ℕ → ℕ → Bool) (b : Box) → Wit
 unfolding boundary rowsFrom columnsFrom rowPoints columnPoints
 boundary-same k w h t u b within same =
     ap₂ (λ (r s : List (ℕ × ℕ)). r ++ s)
-    (joined-same (b .y1 - b .y0) (λ j. rowPoints k t (b .x0) (b .x1 - b .x0) (b .y0 + j))
+    (joined-ext (b .y1 - b .y0) (λ j. rowPoints k t (b .x0) (b .x1 - b .x0) (b .y0 + j))
     (λ j. rowPoints k u (b .x0) (b .x1 - b .x0) (b .y0 + j))
-    (λ j lj. ap (map (across (2 * (b .y0 + j) + 1)))
+    (λ j lj. ap (map (onRow (2 * (b .y0 + j) + 1)))
     (edges-ext k (b .x1 - b .x0) (λ i. t (b .x0 + i) (b .y0 + j)) (λ i. u (b .x0 + i) (b .y0 + j)) (b .x0)
     (λ i li. same (b .x0 + i) (b .y0 + j) (inside (b .x0) (b .x1) w i (within .wide) li) (inside (b .y0) (b .y1) h j (within .high) lj)))))
-    (joined-same (b .x1 - b .x0) (λ i. columnPoints k t (b .y0) (b .y1 - b .y0) (b .x0 + i))
+    (joined-ext (b .x1 - b .x0) (λ i. columnPoints k t (b .y0) (b .y1 - b .y0) (b .x0 + i))
     (λ i. columnPoints k u (b .y0) (b .y1 - b .y0) (b .x0 + i))
-    (λ i li. ap (map (down (2 * (b .x0 + i) + 1)))
+    (λ i li. ap (map (onColumn (2 * (b .x0 + i) + 1)))
     (edges-ext k (b .y1 - b .y0) (λ j. t (b .x0 + i) (b .y0 + j)) (λ j. u (b .x0 + i) (b .y0 + j)) (b .y0)
     (λ j lj. same (b .x0 + i) (b .y0 + j) (inside (b .x0) (b .x1) w i (within .wide) li) (inside (b .y0) (b .y1) h j (within .high) lj)))))
 
@@ -194,14 +187,14 @@ module _ (s : List ℕ) (w h : ℕ) (c : Pictured s w h) (r : Region) (o : Outli
   P = pointsFor s w h c r
 
   answer-is : o .answer ≡ Points (length P)
-  unfolding answered
-  answer-is = o .answer-is ∙ ap (λ (n : ℕ). answered n (length P)) (o .accepted)
+  unfolding outlineBy
+  answer-is = o .answer-is ∙ ap (λ (n : ℕ). outlineBy n (length P)) (o .accepted)
 
   list-is : o .list ≡ laid (floatsOf P) (o .lent)
   unfolding listAfter
   list-is = o .list-is ∙ ap (λ (n : ℕ). listAfter n P (o .lent)) (o .accepted)
 
-  pub listed-is : listed (o .answer) (o .list) ≡ floatsOf P
+  pub listed-is : numbersListed (o .answer) (o .list) ≡ floatsOf P
   listed-is =
-      ap₂ (λ (a : Answer) (l : List Float). listed a l) answer-is list-is
+      ap₂ (λ (a : Answer) (l : List Float). numbersListed a l) answer-is list-is
       ∙ take-at (floatsOf P) (drop (length (floatsOf P)) (o .lent)) (2 * length P) (length-floats P)

@@ -6,20 +6,20 @@
 -- Assumes nothing.
 use mathlib.Core.Path.{_≡_, refl, sym, ap, _∙_, subst}
 use mathlib.Core.Logic.{_⊎_, inl, inr, ⊎-elim}
-use mathlib.Core.Bool.{Bool, true, false, _&&_, _||_}
+use mathlib.Core.Bool.{true, false}
 use Prim.Native.Nat.{ℕ, zero, suc, _+_, _*_, _<_, _≤_, _/_, _%_}
 use native.Mathlib.Nat.{mod-eq-of-lt, div-eq-of-lt}
 use native.Mathlib.Omega.{arith}
-use lib.Dec.{eqb, leb, ltb}
+use lib.Dec.{eqb}
 use borrow.Author.Tests.{eqb-true, eq-eqb, leb-true}
 use Rattle.laws.specs.Plane.{Plane}
 use Rattle.laws.specs.Count.{count}
 use Rattle.laws.proofs.Bools.{which, either, or-left, or-right, clash, le-or-lt}
-use Rattle.regions.specs.Labels.{Linked, here, step, close, near}
-use Rattle.regions.specs.Cells.{cells8, cellsOf, cell, inkCell, cellLabel, labelAt, groupsOf, groupSize}
+use Rattle.labels.specs.Labels.{Linked, here, step, close, near}
+use Rattle.labels.specs.Cells.{cells8, cellsOf, cell, inkCell, cellLabel, labelAt, groupsOf, groupSize}
 use Rattle.regions.specs.Kept.{keptCount, keptLabel, keptCells, keptOf, keptAt, want}
-use Rattle.regions.specs.Claims.{IsFirst, Labelling}
-use Rattle.regions.proofs.Labelled.{labelling}
+use Rattle.labels.specs.Claims.{IsFirst}
+use Rattle.labels.proofs.Labelled.{labelling}
 use Rattle.regions.proofs.Kept.{At, kept-at}
 use Rattle.turned.specs.Stars.{OnlyInk, TwoGroups}
 

@@ -1,32 +1,33 @@
--- The doors carry demand 3: the claim, read through what accepted calls leave and answer. Assumes nothing.
+-- The doors carry demand 3: the claim, read through what accepted calls leave and answer.
+--     shapes, up, up′, alike, doors-moved
+-- Assumes nothing.
 use mathlib.Core.Path.{_≡_, refl, sym, ap, ap₂, _∙_, subst}
 use mathlib.Core.Logic.{_↔_}
 use mathlib.Core.Bool.{Bool, true, false, cond}
 use mathlib.Core.List.{List, []}
-use Prim.Native.Nat.{ℕ, zero, suc, _+_, _*_, _/_, _<_, _≤_}
+use Prim.Native.Nat.{ℕ, zero, suc, _*_, _/_, _<_, _≤_}
 use native.Mathlib.Omega.{arith}
 use lib.Dec.{ltb}
 use lib.Ieee.{Float}
 use Rattle.laws.specs.Plane.{Plane, plane, Alike}
-use Rattle.laws.specs.Move.{Move, wideOf, highOf, moved, placeOf, Box, boxOf, movedBytes}
+use Rattle.laws.specs.Move.{Move, wideOf, highOf, moved, placeOf, Box, movedBytes}
 use Rattle.laws.proofs.Planes.{plane-drawn}
 use Rattle.laws.proofs.Moves.{place-within, sides-times}
-use Rattle.levels.specs.Level.{cells, level, inkOf, inkAt}
-use Rattle.regions.specs.Labels.{label}
-use Rattle.regions.specs.Cells.{cells8, cell, inkCell, cellLabel, labelAt, groupsOf}
+use Rattle.levels.specs.Level.{cells, inkOf, inkAt}
+use Rattle.labels.specs.Labels.{label}
+use Rattle.labels.specs.Cells.{cells8, cell, inkCell, cellLabel, labelAt, groupsOf}
 use Rattle.regions.specs.Kept.{keptCount, keptLabel}
 use Rattle.regions.specs.Boxes.{regionBox}
-use Rattle.regions.specs.Door.{region, keptRegions}
+use Rattle.regions.specs.Regions.{region, keptRegions}
 use Rattle.regions.specs.declared.answer.Kept.{Kept}
 use Rattle.regions.specs.declared.answer.Region.{Region}
 use Rattle.hull.specs.Points.{floatsOf, UpTo}
 use Rattle.boundary.specs.Boundary.{outlineOf}
 use Rattle.boundary.proofs.Boundary.{Within, box-within}
 use Rattle.boundary.proofs.Points.{region-within}
-use Rattle.outline.specs.Door.{boxAt}
 use Rattle.turned.specs.Taken.{Taken, NoTies, Way, inFloats, inWholes}
 use Rattle.turned.specs.Claims.{Moved, SameThresholds, SameInk, SameInkCells, SameGroups, SameRegion, SamePoints, SameHull, SameQuad}
-use Rattle.turned.specs.Calls.{Pictured, regionOf, Outlined, listed}
+use Rattle.turned.specs.Calls.{Pictured, regionOf, Outlined, numbersListed}
 use Rattle.turned.specs.Outlines.{ShapesAlike, ByFloats, ByWholes}
 use Rattle.turned.specs.Doors.{RegionsAlike, DoorsAlike, PictureDoorsMoved, DoorsMoved}
 use Rattle.turned.proofs.Answers.{by-floats, marks-moved}
@@ -207,10 +208,10 @@ module _ (n : ℕ) (way : Way) (exact : Exact n way) (m : Move) (W H : ℕ) (s :
     L′ = outlineOf 4 p′ w′ h′ (keptLabel p′ w′ h′ i)
 
     module _ (o : Outlined s w h c (regionOf s w h c i)) (o′ : Outlined s′ w′ h′ c′ (regionOf s′ w′ h′ c′ i)) where
-      stored : listed (o .answer) (o .list) ≡ floatsOf L
+      stored : numbersListed (o .answer) (o .list) ≡ floatsOf L
       stored = listed-is s w h c (regionOf s w h c i) o ∙ ap floatsOf (points-is s w h c i l within)
 
-      stored′ : listed (o′ .answer) (o′ .list) ≡ floatsOf L′
+      stored′ : numbersListed (o′ .answer) (o′ .list) ≡ floatsOf L′
       stored′ = listed-is s′ w′ h′ c′ (regionOf s′ w′ h′ c′ i) o′ ∙ ap floatsOf (points-is s′ w′ h′ c′ i l′ within′)
 
     pub shapes : ShapesAlike m w h L L′ (way .hullOfPoints L) (way .hullOfPoints L′) (way .quadOfHull (way .hullOfPoints L))
@@ -238,7 +239,7 @@ module _ (n : ℕ) (way : Way) (exact : Exact n way) (m : Move) (W H : ℕ) (s :
     regions = λ i l. regions i (subst (λ (k : ℕ). i < k) kept-is l);
     outlines = λ i l o o′.
         let l′ = subst (λ (k : ℕ). i < k) kept-is l in
-        each i l′ (listed (o .answer) (o .list)) (listed (o′ .answer) (o′ .list)) (stored i l′ o o′) (stored′ i l′ o o′);
+        each i l′ (numbersListed (o .answer) (o .list)) (numbersListed (o′ .answer) (o′ .list)) (stored i l′ o o′) (stored′ i l′ o o′);
   }
 
 same-as : (m : Move) (W H : ℕ) (s : List ℕ)

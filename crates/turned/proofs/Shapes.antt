@@ -19,7 +19,7 @@ use Rattle.whole.specs.Moves.{movedRound}
 use Rattle.whole.proofs.IsHull.{hull-is}
 use Rattle.whole.proofs.Clockwise.{quad-clockwise}
 use Rattle.whole.proofs.Rounds.{same-of, hull-round, quad-round}
-use Rattle.regions.specs.Cells.{groupsOf, groupSize}
+use Rattle.labels.specs.Cells.{groupsOf, groupSize}
 use Rattle.regions.specs.Kept.{keptCount, keptLabel}
 use Rattle.regions.specs.Boxes.{regionBox}
 use Rattle.regions.proofs.Kept.{Untied}

@@ -1,4 +1,4 @@
--- The starred lines of document 01: those on levels, labels and runs by their laws, the others computed from the definitions.
+-- The lines of rule 49: those on levels, labels and runs by their laws, the others computed from the definitions.
 --     low-contrast                 contrast 79, whatever the levels
 --     stars                        the table
 -- Assumes nothing.
@@ -8,12 +8,12 @@ use native.Mathlib.Omega.{arith}
 use borrow.Author.Tests.{lt-ltb}
 use lib.Ieee
 use lib.Ieee.{ofBits, round, add, sub, mul, lt, le, eq, isNan}
-use Rattle.margin.specs.Threshold.{threshold, share, margin}
+use Rattle.threshold.specs.Threshold.{threshold, share, margin}
 use Rattle.levels.proofs.Spots.{spot-dark-few, spot-dark-many}
 use Rattle.levels.proofs.Rows.{row-to-11, row-12}
 use Rattle.boundary.proofs.OneRun.{one-short, one-long}
 use Rattle.ieee.specs.Ops.{sign, before}
-use Rattle.whole.specs.Wrap.{sel, lst, nxt, wlk, wrap, keep, fars, ends, iquad}
+use Rattle.whole.specs.Walk.{bestWith, lowestWith, nextWith, walkWith, hullWith, keep, farthestWith, ends, quadWith}
 use Rattle.hull.specs.Points.{halfOf, numbersOf, floatsOf}
 use Rattle.hull.specs.Hull.{crossAt, d2At, betterAt, lowerAt, sameAt, hullOf, hullPoints}
 use Rattle.hull.specs.Quad.{laceAt, areaAt, quadOf, quadPoints}
@@ -36,9 +36,9 @@ at-255 = refl
 -- ---- hulls
 
 pub stars : Stars
-unfolding hullPoints hullOf wrap wlk nxt sel lst betterAt lowerAt sameAt crossAt d2At floatsOf numbersOf halfOf before sign isNan lt le eq
+unfolding hullPoints hullOf hullWith walkWith nextWith bestWith lowestWith betterAt lowerAt sameAt crossAt d2At floatsOf numbersOf halfOf before sign isNan lt le eq
     round
-    ofBits add sub mul quadPoints quadOf iquad fars ends keep laceAt areaAt
+    ofBits add sub mul quadPoints quadOf quadWith farthestWith ends keep laceAt areaAt
 stars =
     record {
       contrast-79 = low-contrast;

@@ -1,6 +1,5 @@
 -- The parts of demand 3, put together: `moved-by` for any exact way of hull and quad, `demand-3`. Assumes nothing.
-use mathlib.Core.Path.{_≡_}
-use mathlib.Core.List.{List, []}
+use mathlib.Core.List.{[]}
 use Prim.Native.Nat.{ℕ, _*_, _≤_, _<_}
 use native.Mathlib.Omega.{arith}
 use borrow.Author.Tests.{leb-true}
@@ -8,9 +7,9 @@ use Rattle.laws.specs.Plane.{Plane, plane, Alike}
 use Rattle.laws.specs.Move.{Move, wideOf, highOf, moved, movedBytes}
 use Rattle.laws.proofs.Planes.{plane-drawn}
 use Rattle.levels.proofs.Ink.{level-of, ink-of}
-use Rattle.regions.specs.Cells.{groupsOf, groupSize}
+use Rattle.labels.specs.Cells.{groupsOf, groupSize}
 use Rattle.regions.specs.Kept.{want, keptCells}
-use Rattle.regions.proofs.Pictures.{cell-ink-of, groups-of}
+use Rattle.labels.proofs.Pictures.{cell-ink-of, groups-of}
 use Rattle.regions.proofs.Kept.{Untied}
 use Rattle.regions.proofs.Regions.{group-count-of, kept-count-of, region-of, size-of, box-of}
 use Rattle.boundary.proofs.Points.{points-of}

@@ -9,35 +9,35 @@
 use mathlib.Core.Path.{_≡_, refl, sym, ap, ap₂, _∙_, subst}
 use mathlib.Core.Logic.{_↔_}
 use mathlib.Core.List.{List, [], _∷_}
-use Prim.Native.Nat.{ℕ, zero, suc, _*_, _≤_}
+use Prim.Native.Nat.{ℕ, _*_, _≤_}
 use native.Mathlib.Omega.{arith}
 use native.Mathlib.Nat.{le-trans}
 use lib.Ieee.{Float}
 use lib.ListN.{length, take, drop}
 use lib.Seq.{take-at}
+use Rattle.hull.proofs.Floats.{length-floats, length-numbers}
 use Rattle.laws.specs.Lent.{laid}
 use Rattle.laws.specs.Move.{Move}
 use Rattle.hull.specs.Points.{numbersOf, floatsOf, UpTo}
-use Rattle.outline.proofs.Writes.{length-floats}
 use Rattle.doubled.specs.Points.{pairsOf}
 use Rattle.doubled.specs.Outline.{hullWhole, quadWhole}
 use Rattle.doubled.specs.Checks.{checkHull, checkQuad}
 use Rattle.doubled.specs.Doubled.{twices, doubledAfter}
 use Rattle.doubled.specs.Claims.{DoubledIs}
-use Rattle.doubled.proofs.Points.{pairs-numbers, length-numbers}
+use Rattle.doubled.proofs.Points.{pairs-numbers}
 use Rattle.doubled.proofs.Checks.{hull-passed}
 use Rattle.doubled.proofs.Accepted.{hull-good, quad-good, fewer}
 use Rattle.doubled.proofs.Twices.{doubled-is}
-use Rattle.whole_hull.specs.Door.{answered, hullAfter}
+use Rattle.whole_hull.specs.Door.{hullBy, hullAfter}
 use Rattle.whole_hull.specs.declared.Answer.{Answer}
 use Rattle.whole_hull.specs.declared.Answer.the-variants.{Vertices}
-use Rattle.whole_quad.specs.Door.{cornersOf, quadBy}
+use Rattle.whole_quad.specs.Door.{quadOfPairs, quadBy}
 use Rattle.whole_quad.specs.declared.corners.Corners.{Corners}
 use Rattle.whole_quad.specs.declared.corners.Corners.the-variants.{Found, NoQuad, Refused}
 use Rattle.turned.specs.Taken.{inWholes}
 use Rattle.turned.specs.Calls.{DoubledCall, storedBy, WholeHullCall, wholeCount, wholeVertices, WholeQuadCall}
 use Rattle.turned.specs.Accepts.{WholeAccepted}
-use Rattle.turned.specs.Outlines.{ShapesAlike, WholeOutlinesAlike, ByWholes}
+use Rattle.turned.specs.Outlines.{ShapesAlike, ByWholes}
 use Rattle.turned.proofs.Shapes.{hull-within}
 use Rattle.turned.proofs.Turned.{wholes-exact}
 use Rattle.turned.proofs.Answers.{as-many}
@@ -77,9 +77,9 @@ module _ (L : List (ℕ × ℕ)) (l : List Float) (e : l ≡ floatsOf L) (up : U
       pairs-is = ap pairsOf stored-is ∙ pairs-numbers L
 
       answer-is : k .answer ≡ Vertices (length K)
-      unfolding answered
+      unfolding hullBy
       answer-is =
-          k .answer-is ∙ ap (λ (n : ℕ). answered n (length (hullWhole (pairsOf (storedBy l d))))) (k .accepted)
+          k .answer-is ∙ ap (λ (n : ℕ). hullBy n (length (hullWhole (pairsOf (storedBy l d))))) (k .accepted)
           ∙ ap (λ (x : List (ℕ × ℕ)). Vertices (length (hullWhole x))) pairs-is
 
       pub count-is : wholeCount (k .answer) ≡ length K
@@ -97,13 +97,13 @@ module _ (L : List (ℕ × ℕ)) (l : List Float) (e : l ≡ floatsOf L) (up : U
           ap checkQuad vertices-is
           ∙ quad-good K (hull-within 8192 inWholes wholes-exact L up) (le-trans (fewer L) few)
 
-      pub corners-is : (q : WholeQuadCall (wholeVertices (storedBy l d) k)) → q .answer ≡ cornersOf (quadWhole K)
+      pub corners-is : (q : WholeQuadCall (wholeVertices (storedBy l d) k)) → q .answer ≡ quadOfPairs (quadWhole K)
       unfolding quadBy
       corners-is q =
           q .answer-is
           ∙ ap (λ (n : ℕ). quadBy n (quadWhole (pairsOf (wholeVertices (storedBy l d) k)))) quad-accepted
-          ∙ ap (λ (v : List ℕ). cornersOf (quadWhole (pairsOf v))) vertices-is
-          ∙ ap (λ (x : List (ℕ × ℕ)). cornersOf (quadWhole x)) (pairs-numbers K)
+          ∙ ap (λ (v : List ℕ). quadOfPairs (quadWhole (pairsOf v))) vertices-is
+          ∙ ap (λ (x : List (ℕ × ℕ)). quadOfPairs (quadWhole x)) (pairs-numbers K)
 
   pub whole-accepted : length L ≤ 16384 → WholeAccepted l
   whole-accepted few = record {
@@ -115,8 +115,8 @@ module _ (L : List (ℕ × ℕ)) (l : List Float) (e : l ≡ floatsOf L) (up : U
   }
 
 -- ---- none
-none-empty : (L : List (ℕ × ℕ)) → (cornersOf L ≡ NoQuad → length L ≡ 0) × (length L ≡ 0 → cornersOf L ≡ NoQuad)
-unfolding cornersOf
+none-empty : (L : List (ℕ × ℕ)) → (quadOfPairs L ≡ NoQuad → length L ≡ 0) × (length L ≡ 0 → quadOfPairs L ≡ NoQuad)
+unfolding quadOfPairs
 none-empty [] = (λ n. refl, λ n. refl)
 none-empty (q ∷ L) = (λ n. absurd (subst found n tt), λ n. absurd (omega (arith, n)))
   where
@@ -125,7 +125,7 @@ none-empty (q ∷ L) = (λ n. absurd (subst found n tt), λ n. absurd (omega (ar
     found NoQuad = ⊥
     found (Refused n) = ⊥
 
-none-both : (a a′ : Corners) (L L′ : List (ℕ × ℕ)) → a ≡ cornersOf L → a′ ≡ cornersOf L′ → length L′ ≡ length L
+none-both : (a a′ : Corners) (L L′ : List (ℕ × ℕ)) → a ≡ quadOfPairs L → a′ ≡ quadOfPairs L′ → length L′ ≡ length L
     → (a ≡ NoQuad) ↔ (a′ ≡ NoQuad)
 none-both a a′ L L′ e e′ same =
     let z = none-empty L in

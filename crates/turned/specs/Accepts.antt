@@ -7,13 +7,12 @@ use lib.Ieee.{Float}
 use lib.ListN.{length}
 use Rattle.laws.specs.Move.{Move, wideOf, highOf, movedBytes}
 use Rattle.levels.specs.Level.{cells}
-use Rattle.regions.specs.Cells.{cellsOf}
-use Rattle.regions.specs.Door.{checkGrids}
+use Rattle.labels.specs.Cells.{cellsOf}
+use Rattle.picture.specs.Door.{checkGrids}
 use Rattle.turned.specs.Taken.{Taken}
 use Rattle.doubled.specs.Checks.{checkHull, checkQuad}
 use Rattle.doubled.specs.Doubled.{checkDoubled}
-use Rattle.turned.specs.Calls.{Pictured, regionOf, checkedFor, Outlined, listed}
-use Rattle.turned.specs.Calls.{DoubledCall, storedBy, WholeHullCall, wholeVertices}
+use Rattle.turned.specs.Calls.{Pictured, regionOf, checkedFor, Outlined, numbersListed, DoubledCall, storedBy, WholeHullCall, wholeVertices}
 
 -- The doors by whole numbers accept the numbers l, where lent lists have as many places.
 pub record WholeAccepted (l : List Float) : Type 0 where
@@ -42,4 +41,4 @@ pub record DoorsAccept : Type 0 where
   -- lists have as many places, or of whole_quad's `quad` on the vertices that are listed then.
   pub whole : (W H : ℕ) (s : List ℕ) → Taken 4096 W H s → (c : Pictured s (16 * W) (16 * H)) (i : ℕ)
       → i < c .answer .regions .kept → (o : Outlined s (16 * W) (16 * H) c (regionOf s (16 * W) (16 * H) c i))
-      → WholeAccepted (listed (o .answer) (o .list))
+      → WholeAccepted (numbersListed (o .answer) (o .list))

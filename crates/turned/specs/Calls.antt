@@ -6,8 +6,9 @@ use mathlib.Core.List.{List, []}
 use Prim.Native.Nat.{ℕ, _*_, _≤_}
 use lib.Ieee.{Float}
 use lib.ListN.{length, getD, take}
-use Rattle.regions.specs.Door.{noRegion, pictureAnswer, levelsAfter, labelsAfter}
-use Rattle.regions.specs.declared.answer.PictureAnswer.{PictureAnswer}
+use Rattle.regions.specs.Regions.{noRegion, boxIn}
+use Rattle.picture.specs.Door.{pictureAnswer, levelsAfter, labelsAfter}
+use Rattle.picture.specs.declared.answer.PictureAnswer.{PictureAnswer}
 use Rattle.regions.specs.declared.answer.Region.{Region}
 use Rattle.hull.specs.Door.{hulled, verticesAfter}
 use Rattle.hull.specs.declared.Hulled.{Hulled}
@@ -21,7 +22,7 @@ use Rattle.whole_hull.specs.declared.Answer.{Answer as WholeAnswer}
 use Rattle.whole_hull.specs.declared.Answer.the-variants as whole
 use Rattle.whole_quad.specs.Door.{quadAnswer}
 use Rattle.whole_quad.specs.declared.corners.Corners.{Corners as WholeCorners}
-use Rattle.outline.specs.Door.{checkOutline, doorPoints, answered, listAfter}
+use Rattle.outline.specs.Door.{numberFor, doorPoints, outlineAnswer, outlineAfter}
 use Rattle.outline.specs.declared.Answer.{Answer}
 use Rattle.outline.specs.declared.Answer.the-variants.{Points, Refused}
 use Rattle.marks.specs.Doors.{correlateAnswer, countsBeside}
@@ -49,24 +50,24 @@ regionOf s w h c i = getD (c .answer .regions .list) i noRegion
 -- The checks of the outline door, and its points, for that region: handed the grids that the picture door left, the region's label and
 -- box, and a list of so many places.
 abbrev pub checkedFor : (s : List ℕ) (w h : ℕ) → Pictured s w h → Region → ℕ → ℕ
-checkedFor s w h c r room = checkOutline w h (length s) (r .x0) (r .y0) (r .x1) (r .y1) (length (c .grid)) (length (c .labels)) room
+checkedFor s w h c r room = numberFor s (c .grid) (c .labels) w h (boxIn r) room
 
 abbrev pub pointsFor : (s : List ℕ) (w h : ℕ) → Pictured s w h → Region → List (ℕ × ℕ)
-pointsFor s w h c r = doorPoints (r .label) w s (c .grid) (c .labels) (r .x0) (r .y0) (r .x1) (r .y1)
+pointsFor s w h c r = doorPoints (r .label) w s (c .grid) (c .labels) (boxIn r)
 
 -- An accepted call of the outline door for a region: the list as lent, the answer, and the list as left.
 pub record Outlined (s : List ℕ) (w h : ℕ) (c : Pictured s w h) (r : Region) : Type 0 where
   pub lent : List Float
   pub answer : Answer
   pub list : List Float
-  pub answer-is : answer ≡ answered (checkedFor s w h c r (length lent)) (length (pointsFor s w h c r))
-  pub list-is : list ≡ listAfter (checkedFor s w h c r (length lent)) (pointsFor s w h c r) lent
+  pub answer-is : answer ≡ outlineAnswer s (c .grid) (c .labels) (r .label) w h (boxIn r) (length lent)
+  pub list-is : list ≡ outlineAfter s (c .grid) (c .labels) (r .label) w h (boxIn r) lent
   pub accepted : checkedFor s w h c r (length lent) ≡ 0
 
 -- The numbers that the outline door listed: two for each point answered.
-abbrev pub listed : Answer → List Float → List Float
-listed (Points n) l = take (2 * n) l
-listed (Refused n) l = []
+abbrev pub numbersListed : Answer → List Float → List Float
+numbersListed (Points n) l = take (2 * n) l
+numbersListed (Refused n) l = []
 
 -- ---- hull and quad, by f32 numbers
 

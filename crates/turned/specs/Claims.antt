@@ -1,9 +1,9 @@
--- Demand 3 as one claim, in the words of document 01, "What demand 3 compares": over every picture, move, version and list of marks,
+-- Demand 3 as one claim, rules 39 and 40: over every picture, move, version and list of marks,
 -- of the same definitions that the doors' contracts cite. Statements only. A `Move` is any number of quarter turns, with or without the
 -- mirror first; points are in doubled coordinates, so that centres and edges of pixels are whole. How hull and quad are worked out, and the
 -- greatest side, are parameters: f32 numbers up to 1,024, and whole numbers up to 4,096.
 --
--- The conditions are needed. Equal counts are told apart by their labels, and a move renumbers labels. The picture of document 01's
+-- The conditions are needed. Equal counts are told apart by their labels, and a move renumbers labels. The picture of README's
 -- example is its own mirror image and its quad is not: more than one pair of its hull's vertices is farthest apart.
 use mathlib.Core.Path.{_≡_}
 use mathlib.Core.Logic.{_↔_}
@@ -14,9 +14,9 @@ use Rattle.laws.specs.Plane.{Plane, plane}
 use Rattle.laws.specs.Move.{Move, wideOf, highOf, placeOf, boxOf, movedBytes}
 use Rattle.whole.specs.Points.{Pt, Rot, NoDup, Clockwise, Starts}
 use Rattle.whole.specs.Quad.{Far, OneTop}
-use Rattle.whole.specs.Moves.{often, pointOf, movedRound}
+use Rattle.whole.specs.Moves.{often, movedPoint, movedRound}
 use Rattle.levels.specs.Level.{level, inkAt}
-use Rattle.regions.specs.Cells.{cells8, cell, inkCell, labelAt, groupsOf}
+use Rattle.labels.specs.Cells.{cells8, cell, inkCell, labelAt, groupsOf}
 use Rattle.regions.specs.Kept.{keptCount, keptLabel, keptCells}
 use Rattle.regions.specs.Boxes.{regionBox}
 use Rattle.hull.specs.Points.{ptsOf}
@@ -80,7 +80,7 @@ module _ (m : Move) (W H : ℕ) (p p′ : Plane) where
 
   -- "A point is among its boundary points as often as the point moved there was among those of the first picture's i-th"
   unfoldable pub SamePoints : ℕ → Type 0
-  SamePoints i = (q : Pt) → often (pointOf m w h q) (ptsOf (points′ i)) ≡ often q (ptsOf (points i))
+  SamePoints i = (q : Pt) → often (movedPoint m w h q) (ptsOf (points′ i)) ≡ often q (ptsOf (points i))
 
   -- ---- with hulls and quads worked out in some way
   module _ (way : Way) where

@@ -7,18 +7,17 @@ use mathlib.Core.List.{List}
 use Prim.Native.Nat.{ℕ, _+_, _*_, _<_}
 use lib.Ieee.{Float}
 use lib.ListN.{length, getD}
+use Rattle.regions.specs.Regions.{boxIn}
 use Rattle.laws.specs.Plane.{plane}
 use Rattle.laws.specs.Move.{Move, wideOf, highOf, placeOf, boxOf, movedBytes}
 use Rattle.levels.specs.Level.{cells, inkOf}
-use Rattle.regions.specs.Cells.{cells8}
+use Rattle.labels.specs.Cells.{cells8}
 use Rattle.regions.specs.declared.answer.Region.{Region}
-use Rattle.outline.specs.Door.{boxAt}
 use Rattle.lcr_core.specs.Version.{IsVersion, positionsOf}
 use Rattle.marks.specs.Pose.{MarkMove, MarksMoved, cornerTo, reversedTo}
-use Rattle.whole_quad.specs.declared.corners.Corners.the-variants as whole
 use Rattle.turned.specs.Taken.{Taken, NoTies}
 use Rattle.turned.specs.Outlines.{ByFloats, ByWholes}
-use Rattle.turned.specs.Calls.{Pictured, regionOf, Outlined, listed, CorrelateCall}
+use Rattle.turned.specs.Calls.{Pictured, regionOf, Outlined, numbersListed, CorrelateCall}
 
 -- ---- pictures
 
@@ -47,7 +46,7 @@ module _ (m : Move) (W H : ℕ) (s : List ℕ) (c : Pictured s (16 * W) (16 * H)
   -- Two regions answered: the moved cells by the labels left, the moved box, the same count.
   pub record RegionsAlike (r r′ : Region) : Type 0 where
     pub group : (x y : ℕ) → x < cells8 w → y < cells8 h → (labelled x y ≡ r .label) ↔ (labelled′ x y ≡ r′ .label)
-    pub box : boxAt (r′ .x0) (r′ .y0) (r′ .x1) (r′ .y1) ≡ boxOf m w h (boxAt (r .x0) (r .y0) (r .x1) (r .y1))
+    pub box : boxIn r′ ≡ boxOf m w h (boxIn r)
     pub count : r′ .cells ≡ r .cells
 
   -- All that the picture door left and answered; and, for each region answered, `alike` of the numbers that the outline door lists.
@@ -65,7 +64,7 @@ module _ (m : Move) (W H : ℕ) (s : List ℕ) (c : Pictured s (16 * W) (16 * H)
     pub regions : (i : ℕ) → i < c .answer .regions .kept → RegionsAlike (regionOf s w h c i) (regionOf s′ w′ h′ c′ i)
     pub outlines : (i : ℕ) → i < c .answer .regions .kept
         → (o : Outlined s w h c (regionOf s w h c i)) (o′ : Outlined s′ w′ h′ c′ (regionOf s′ w′ h′ c′ i))
-        → alike (listed (o .answer) (o .list)) (listed (o′ .answer) (o′ .list))
+        → alike (numbersListed (o .answer) (o .list)) (numbersListed (o′ .answer) (o′ .list))
 
 -- Every picture taken with sides up to `most`, every move, every accepted call on either picture.
 unfoldable pub PictureDoorsMoved : ℕ → (Move → ℕ → ℕ → List Float → List Float → Type 0) → Type 0

@@ -8,19 +8,19 @@ use lib.Ieee.{Float}
 use Rattle.laws.specs.Move.{Move}
 use Rattle.whole.specs.Points.{Pt, Rot, NoDup, Clockwise, Starts}
 use Rattle.whole.specs.Quad.{Far, OneTop}
-use Rattle.whole.specs.Moves.{often, pointOf, movedRound}
+use Rattle.whole.specs.Moves.{often, movedPoint, movedRound}
 use Rattle.hull.specs.Points.{ptsOf, floatsOf, numbersOf}
 use Rattle.hull.specs.Quad.{valuesOf}
 use Rattle.hull.specs.declared.points.Corners.the-variants.{NoQuad}
-use Rattle.whole_quad.specs.Door.{cornersOf}
+use Rattle.whole_quad.specs.Door.{quadOfPairs}
 use Rattle.whole_quad.specs.declared.corners.Corners.the-variants as whole
-use Rattle.turned.specs.Calls.{listed, HullCall, countOf, verticesOf, QuadCall}
+use Rattle.turned.specs.Calls.{HullCall, countOf, verticesOf, QuadCall}
 use Rattle.turned.specs.Calls.{DoubledCall, storedBy, WholeHullCall, wholeCount, wholeVertices, WholeQuadCall}
 
 -- Points, vertices and corners of a region of a picture of w by h, and those of the moved picture's, in doubled coordinates: as demand 3 has
 -- them.
 pub record ShapesAlike (m : Move) (w h : ℕ) (points points′ vertices vertices′ corners corners′ : List (ℕ × ℕ)) : Type 0 where
-  pub boundary : (p : Pt) → often (pointOf m w h p) (ptsOf points′) ≡ often p (ptsOf points)
+  pub boundary : (p : Pt) → often (movedPoint m w h p) (ptsOf points′) ≡ often p (ptsOf points)
   pub hull : Rot (movedRound m w h (ptsOf vertices)) (ptsOf vertices′) × NoDup (ptsOf vertices′) × Clockwise (ptsOf vertices′)
       × Starts (ptsOf vertices′) (ptsOf points′)
   pub quad : (a b : Pt) → Far (ptsOf vertices) a b → OneTop (ptsOf vertices) a b → OneTop (ptsOf vertices) b a
@@ -58,7 +58,7 @@ pub record WholeOutlinesAlike (m : Move) (w h : ℕ) (l l′ : List Float) (d : 
   pub stored : (l ≡ floatsOf points) × (l′ ≡ floatsOf points′)
   pub doubled : (storedBy l d ≡ numbersOf points) × (storedBy l′ d′ ≡ numbersOf points′)
   pub hulled : (wholeVertices (storedBy l d) k ≡ numbersOf vertices) × (wholeVertices (storedBy l′ d′) k′ ≡ numbersOf vertices′)
-  pub cornered : (q .answer ≡ cornersOf corners) × (q′ .answer ≡ cornersOf corners′)
+  pub cornered : (q .answer ≡ quadOfPairs corners) × (q′ .answer ≡ quadOfPairs corners′)
   pub count : wholeCount (k′ .answer) ≡ wholeCount (k .answer)
   pub alike : ShapesAlike m w h points points′ vertices vertices′ corners corners′
   pub none : (a b : Pt) → Far (ptsOf vertices) a b → OneTop (ptsOf vertices) a b → OneTop (ptsOf vertices) b a

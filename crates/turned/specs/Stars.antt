@@ -1,18 +1,18 @@
--- Document 01's starred lines, "Edges of the rules", as one table over the rules' own definitions: a field a line, in 01's order, of every
+-- The lines of rule 49, as one table over the rules' own definitions: a field a line, in its order, of every
 -- picture, line and place that the line speaks of. Points of hulls and runs are in doubled coordinates. Statements, and the pictures that
 -- they speak of.
 use mathlib.Core.Path.{_≡_}
 use mathlib.Core.Bool.{Bool, true, false, _||_}
-use mathlib.Core.List.{List, [], _∷_, map}
+use mathlib.Core.List.{[], _∷_, map}
 use Prim.Native.Nat.{ℕ, suc, _+_, _*_, _-_, _<_, _≤_}
 use lib.Dec.{eqb}
 use lib.IntN.{pos, negsuc}
 use lib.ListN.{length}
 use Rattle.laws.specs.Plane.{Plane}
-use Rattle.margin.specs.Threshold.{threshold}
+use Rattle.threshold.specs.Threshold.{threshold}
 use Rattle.levels.specs.Level.{dark, level}
 use Rattle.levels.specs.Spots.{Spotted, RowOf14}
-use Rattle.regions.specs.Cells.{cells8, inkCell, labelAt, groupsOf, groupSize}
+use Rattle.labels.specs.Cells.{cells8, inkCell, labelAt, groupsOf, groupSize}
 use Rattle.regions.specs.Kept.{keptCount, keptLabel, keptCells}
 use Rattle.boundary.specs.Runs.{edges, OneRun}
 use Rattle.hull.specs.Hull.{hullPoints}

@@ -4,7 +4,7 @@ use mathlib.Core.List.{List}
 use Prim.Native.Nat.{ℕ, _*_, _≤_, _<_}
 use lib.ListN.{length, getD}
 use Rattle.laws.specs.Plane.{Plane}
-use Rattle.regions.specs.Cells.{groupsOf, groupSize}
+use Rattle.labels.specs.Cells.{groupsOf, groupSize}
 use Rattle.hull.specs.Hull.{hullPoints}
 use Rattle.hull.specs.Quad.{quadPoints}
 use Rattle.doubled.specs.Outline.{hullWhole, quadWhole}

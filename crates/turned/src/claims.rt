@@ -21,7 +21,7 @@ pub fn doors_accept()
     ensures { λ _. ⌜ DoorsAccept ⌝ }
 {}
 
-// The starred lines of document 01, as one table.
+// The lines of rule 49, as one table.
 pub fn stars()
     ensures { λ _. ⌜ Stars ⌝ }
 {}

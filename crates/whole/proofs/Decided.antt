@@ -1,28 +1,29 @@
--- The words decide the vertices: a list with the three properties in 01's order is the hull.
+-- The words decide the vertices: a list with the three properties in the order of rule 18 is the hull.
 --     at-first, at-second, on-line       a point on an edge's line, seen from the edge's ends
 --     side-of-three                      on the right of three edges in turn: on the right of the middle one, or between its ends
 --     turns-of, run-go                   edge after edge
 --     decided                            the list is the hull
 -- Assumes nothing.
 use mathlib.Core.Path.{_≡_, refl, sym, ap, ap₂, _∙_, subst}
-use mathlib.Core.Logic.{_⊎_, inl, inr, _≢_}
 use mathlib.Core.List.{List, [], _∷_, List·Memᴰ·head, List·Memᴰ·tail}
-use Prim.Native.Nat.{ℕ, suc, _<_}
+use Prim.Native.Nat.{_<_}
 use native.Mathlib.Omega.{arith}
 use lib.ListN.{length}
-use lib.IntN.{ℤ, pos}
+use lib.IntN.{ℤ}
+use Rattle.whole.proofs.Reordered.{lex-anti}
+use Rattle.whole.proofs.Moved.{dot-sym}
 use Rattle.whole.specs.Numbers.{_⊕_, _⊗_, neg, 𝟘, NN, PP}
-use Rattle.whole.specs.Points.{Pt, cross, d2, Mem, ptAt, NoDup, Fan, Clockwise, LexLe}
+use Rattle.whole.specs.Points.{Pt, cross, d2, Mem, ptAt, Fan, Clockwise}
 use Rattle.whole.specs.Hull.{hull, walk, startOf}
-use Rattle.whole.proofs.Sums.{⊕-𝟘, 𝟘-⊕, 𝟘-⊗, ⊗-comm, ⊕-neg}
-use Rattle.whole.proofs.Ring.{𝕧, _:+_, _:-_, _:*_, :n, solve}
-use Rattle.whole.proofs.Ord.{pn, nn+, nn*, nn≡, pp≡, p0, pnn, z0, anti, sub0, divN}
-use Rattle.whole.proofs.Turns.{X, Y, C, D, S, env, pt≡, cyc, rot2, cross-same, d2N}
+use Rattle.whole.proofs.Sums.{⊕-𝟘, 𝟘-⊗}
+use Rattle.whole.proofs.Ring.{_:+_, _:-_, _:*_, :n, solve}
+use Rattle.whole.proofs.Ord.{pn, nn*, nn≡, pp≡, p0, z0, divN}
+use Rattle.whole.proofs.Turns.{X, Y, C, D, S, env, cyc, rot2, cross-same}
 use Rattle.whole.proofs.Edge.{Side, side-first, Edge, d2P'}
 use Rattle.whole.proofs.Run.{Run}
 use Rattle.whole.proofs.Closed.{run-unique}
 use Rattle.whole.proofs.Hulls.{hull-run, start-least, start-mem}
-use Rattle.whole.specs.IsHull.{dot, OnRight, Between, OnRightOfAll, OnOrInside, IsHull}
+use Rattle.whole.specs.IsHull.{dot, OnRight, Between, OnRightOfAll, IsHull}
 use Rattle.whole.proofs.IsHull.{none, lastOf, last-mem, at-end}
 
 -- ---- a point on the line of u and w
@@ -89,10 +90,6 @@ module _ (P : List Pt) (a b : Pt) (first : (p : Pt) → Mem p P → OnRight a b 
     run-go u w (x ∷ rest) (λ p i. k p i .0) (λ p i. k p i .1) (n .1) (λ q i. m q (List·Memᴰ·tail i)),
   )
 
-dot-sym : (c a b : Pt) → dot c a b ≡ dot c b a
-unfolding dot
-dot-sym c a b = solve (env (c ∷ a ∷ b ∷ [])) (D 0 1 2) (D 0 2 1) refl
-
 side-between : (a b p : Pt) → Between a b p → Side a b p × Side b a p
 unfolding Side dot
 side-between a b p h = (
@@ -121,18 +118,6 @@ run-is P a (b ∷ c ∷ l) o =
     )
 
 -- ---- the same start
-pub lex-anti : (a b : Pt) → LexLe a b → LexLe b a → a ≡ b
-lex-anti a b (inl h) (inl k) = absurd (pnn h (nn≡ (pn k) (back (a .x) (b .x))))
-  where
-    back : (x y : ℤ) → x ⊕ neg y ≡ neg (y ⊕ neg x)
-    back x y = solve (x ∷ y ∷ []) (𝕧 0 :- 𝕧 1) (:n (𝕧 1 :- 𝕧 0)) refl
-lex-anti a b (inl h) (inr k) = absurd (p0 h (subst (λ (t : ℤ). b .x ⊕ neg t ≡ 𝟘) (sym (sub0 _ _ (k .0))) (⊕-neg (b .x))))
-lex-anti a b (inr h) (inl k) = absurd (p0 k (subst (λ (t : ℤ). a .x ⊕ neg t ≡ 𝟘) (sym (sub0 _ _ (h .0))) (⊕-neg (a .x))))
-lex-anti a b (inr h) (inr k) = pt≡ a b (sym (sub0 _ _ (h .0))) (sym (sub0 _ _ (anti (h .1) (nn≡ (k .1) (back (a .y) (b .y))))))
-  where
-    back : (x y : ℤ) → x ⊕ neg y ≡ neg (y ⊕ neg x)
-    back x y = solve (x ∷ y ∷ []) (𝕧 0 :- 𝕧 1) (:n (𝕧 1 :- 𝕧 0)) refl
-
 pub decided : (P vs : List Pt) → IsHull P vs → vs ≡ hull P
 decided [] [] o = unfold hull walk in refl
 decided (p ∷ P) [] o = absurd (o .holds p (List·Memᴰ·head refl))

@@ -6,7 +6,7 @@
 use mathlib.Core.Path.{_≡_, refl, sym, _∙_, ap, subst}
 use mathlib.Core.Logic.{_⊎_, inl, inr, _≢_}
 use mathlib.Core.List.{List, [], _∷_, List·Memᴰ·head, List·Memᴰ·tail}
-use Prim.Native.Nat.{ℕ, _+_}
+use Prim.Native.Nat.{ℕ}
 use lib.IntN.{ℤ, pos}
 use Rattle.whole.specs.Numbers.{_⊕_, _⊗_, neg, 𝟘, 𝟙, NN, PP}
 use Rattle.whole.proofs.Sums.{⊕-𝟘, 𝟘-⊕, ⊗-𝟘, 𝟘-⊗, ⊕-neg}
@@ -14,29 +14,7 @@ use Rattle.whole.proofs.Ring.{Expr, 𝕧, 𝕜, _:+_, _:-_, _:*_, :n, s
 use Rattle.whole.proofs.Ord.{pn, nn+, pn+, np+, nn*, pp*, p0, nn≡, pp≡, z0, p1, above1, pnn, anti, nsplit, cmp, divN, divP}
 use Rattle.whole.specs.Points.{Pt, cross, d2, Mem}
 use Rattle.whole.specs.IsHull.{dot}
-use Rattle.whole.proofs.Turns.{
-  lin,
-  X,
-  Y,
-  C,
-  D,
-  S,
-  L,
-  O,
-  env,
-  swap,
-  cross-o,
-  cross-same,
-  plu,
-  tri,
-  d2N,
-  d2-0,
-  d2-self,
-  Ge,
-  At,
-  ge-top,
-  lin-self,
-}
+use Rattle.whole.proofs.Turns.{lin, X, Y, C, D, S, L, O, env, swap, cross-o, cross-same, plu, tri, d2N, d2-0, d2-self, Ge, At, ge-top, lin-self}
 
 -- p lies to the right of the way from a to b; or on the line, and then from a to b: not beyond either
 unfoldable pub Side : Pt → Pt → Pt → Type 0

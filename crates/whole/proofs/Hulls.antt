@@ -13,22 +13,19 @@ use lib.ListN.{length}
 use lib.IntN.{ℤ, pos, negsuc}
 use Rattle.whole.specs.Numbers.{_⊕_, _⊗_, neg, 𝟘, 𝟙, NN, nn, PP, pp}
 use Rattle.whole.proofs.Sums.{⊕-𝟘, 𝟘-⊕, ⊗-𝟘, ⊕-neg, 𝟙-⊗}
-use Rattle.whole.proofs.Ring.{𝕧, _:+_, _:-_, :n, solve}
+use Rattle.whole.proofs.Ring.{𝕧, _:+_, _:-_, solve}
 use Rattle.whole.proofs.Ord.{pn, nn+, np+, pn+, nn≡, pp≡, z0, nsplit, sub0}
 use Rattle.whole.specs.Points.{Pt, Mem, ptAt, LexLe}
 use Rattle.whole.proofs.Turns.{pt≡, lin, At}
 use Rattle.whole.proofs.Edge.{Side, Edge, Ext, side-of, bound, more}
 use Rattle.whole.specs.Hull.{isNeg, isZero, select, range, lower, least, startOf, nextOf, hull}
-use Rattle.whole.proofs.Select.{select-ok, Sel}
+use Rattle.whole.proofs.Select.{select-ok, Sel, flip-d}
 use Rattle.whole.proofs.Run.{Run, back-start}
 
 -- ---- the start
 
 ring3 : (a b c : ℤ) → (b ⊕ neg a) ⊕ (c ⊕ neg b) ≡ c ⊕ neg a
 ring3 a b c = solve (a ∷ b ∷ c ∷ []) ((𝕧 1 :- 𝕧 0) :+ (𝕧 2 :- 𝕧 1)) (𝕧 2 :- 𝕧 0) refl
-
-rneg : (a b : ℤ) → neg (a ⊕ neg b) ≡ b ⊕ neg a
-rneg a b = solve (a ∷ b ∷ []) (:n (𝕧 0 :- 𝕧 1)) (𝕧 1 :- 𝕧 0) refl
 
 lex-refl : (a : Pt) → LexLe a a
 lex-refl a = inr (⊕-neg (a .x), nn≡ z0 (sym (⊕-neg (a .y))))
@@ -56,12 +53,12 @@ lower-true : (a b : Pt) (s t : ℤ) → a .x ⊕ neg (b .x) ≡ s → a .y ⊕ n
 unfolding 𝟘
 lower-true a b (pos zero) (pos m) e d h = absurd (mathlib.Core.Bool.false≢true h)
 lower-true a b (pos zero) (negsuc m) e d h =
-    inr (sym (rneg (a .x) (b .x)) ∙ ap neg e ∙ nz, nn≡ (nn-of m) (ap neg (sym d) ∙ rneg (a .y) (b .y)))
+    inr (sym (flip-d (a .x) (b .x)) ∙ ap neg e ∙ nz, nn≡ (nn-of m) (ap neg (sym d) ∙ flip-d (a .y) (b .y)))
   where
     nz : neg (pos zero) ≡ pos zero
     nz = sym (𝟘-⊕ (neg 𝟘)) ∙ ⊕-neg 𝟘
 lower-true a b (pos (suc m)) t e d h = absurd (mathlib.Core.Bool.false≢true h)
-lower-true a b (negsuc m) t e d h = inl (pp≡ (pp-of m) (ap neg (sym e) ∙ rneg (a .x) (b .x)))
+lower-true a b (negsuc m) t e d h = inl (pp≡ (pp-of m) (ap neg (sym e) ∙ flip-d (a .x) (b .x)))
 
 lower-false : (a b : Pt) (s t : ℤ) → a .x ⊕ neg (b .x) ≡ s → a .y ⊕ neg (b .y) ≡ t → isNeg s || (isZero s && isNeg t) ≡ false → LexLe b a
 unfolding 𝟘
@@ -194,8 +191,8 @@ module _ (P : List Pt) (some : 0 < length P) where
     mem-at P r r<,
     λ p m. let q = index-of P p m in
         subst (λ t. Side (ptAt P c) (ptAt P r) t) (q .2)
-        (side-of (x .0) (ptAt P c) (ptAt P r) (ptAt P (q .0)) (sel .at) (x .1 _ (mem-at P (q .0) (q .1)))
-        (sel .all (q .0) (Memᴰ·cast (omega arith) (range-has 0 (length P) (q .0) (q .1))))),
+        (side-of (x .0) (ptAt P c) (ptAt P r) (ptAt P (q .0)) (bestWith .at) (x .1 _ (mem-at P (q .0) (q .1)))
+        (bestWith .all (q .0) (Memᴰ·cast (omega arith) (range-has 0 (length P) (q .0) (q .1))))),
   )
     where
       i0 : ℕ
@@ -207,15 +204,15 @@ module _ (P : List Pt) (some : 0 < length P) where
       r : ℕ
       r = select (ptAt P) (ptAt P c) i0 (range 0 (length P))
 
-      sel : Sel (ptAt P) (x .0) (ptAt P c) i0 (range 0 (length P)) r
-      sel = select-ok (ptAt P) (x .0) (ptAt P c) i0 (range 0 (length P)) (x .1 _ (mem-at P i0 i0<)) (λ i m. x .1 _ (mem-at P i (in-P i m)))
+      bestWith : Sel (ptAt P) (x .0) (ptAt P c) i0 (range 0 (length P)) r
+      bestWith = select-ok (ptAt P) (x .0) (ptAt P c) i0 (range 0 (length P)) (x .1 _ (mem-at P i0 i0<)) (λ i m. x .1 _ (mem-at P i (in-P i m)))
 
       go : (r : ℕ) → List·Memᴰ r (i0 ∷ range 0 (length P)) → r < length P
       go r (List·Memᴰ·head e) = subst (λ t. t < length P) (sym e) i0<
       go r (List·Memᴰ·tail t) = in-P r t
 
       r< : r < length P
-      r< = go r (sel .mem)
+      r< = go r (bestWith .mem)
 
   pub hull-run : (vs : List Pt) × (hull P ≡ s ∷ vs) × Run P s vs s × (¬ Mem s vs)
   unfolding hull

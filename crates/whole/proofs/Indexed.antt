@@ -1,5 +1,5 @@
 -- The quad over indices, with the values and their comparisons as parameters: one rule for f32 and for whole numbers.
---     keep-cong, iquad-cong          values that compare alike give the same indices
+--     keep-cong, quadWith-cong          values that compare alike give the same indices
 --     far-is', c-is, d-is, quad-is   whole values give the quad of the points
 -- Assumes nothing.
 use mathlib.Core.Path.{_≡_, refl, sym, _∙_, ap}
@@ -7,16 +7,16 @@ use mathlib.Core.Bool.{Bool, true, false, _&&_}
 use mathlib.Core.List.{List, [], _∷_, _++_, map, List·Memᴰ, List·Memᴰ·head, List·Memᴰ·tail}
 use Prim.Native.Nat.{ℕ, suc, _+_, _<_, suc-le-suc}
 use native.Mathlib.Omega.{arith}
-use native.Mathlib.Nat as NatL
 use lib.ListN.{length}
 use lib.Dec.{ltb}
 use lib.IntN.{ℤ}
+use Rattle.laws.proofs.Stores.{map-append}
 use Rattle.whole.specs.Numbers.{_⊕_, neg, 𝟘, 𝟙}
 use Rattle.whole.proofs.Sums.{neg-neg, ⊕-comm, 𝟘-⊕, ⊕-𝟘}
 use Rattle.whole.specs.Points.{Pt, cross, ptAt}
 use Rattle.whole.specs.Hull.{isNeg, range}
 use Rattle.whole.specs.Quad.{amax, pairs, dist, area, corners, farthest, quad}
-use Rattle.whole.specs.Wrap.{keep, ipairs, Ops, fars, ends, iquad, wholeOps, lessZ, with-i}
+use Rattle.whole.specs.Walk.{keep, indexPairs, Ops, farthestWith, ends, quadWith, wholeOps, lessZ, with-i}
 
 -- ---- values that are related and compared alike give the same indices
 module _ {T E F : Type 0} (R : E → F → Type 0) (t : E → E → Bool) (t' : F → F → Bool) (g : T → E) (g' : T → F)
@@ -51,10 +51,10 @@ module _ {E F : Type 0} (Rd R : E → F → Type 0) (o : Ops E) (p : Ops F)
     (ds : (i j : ℕ) → Rd (o .d i j) (p .d i j)) (sides : (a b i : ℕ) → R (o .side a b i) (p .side a b i))
     (areas : (a b c d : ℕ) → R (o .quadArea a b c d) (p .quadArea a b c d))
     (backs : (u : E) (u' : F) → R u u' → o .back u ≡ p .back u') where
-  fars-cong : (n : ℕ) → fars o n ≡ fars p n
-  unfolding fars
-  fars-cong n = keep-cong Rd (o .less) (p .less) (λ q. o .d (q .0) (q .1)) (λ q. p .d (q .0) (q .1)) aliked (0, 0) (o .low) (p .low)
-      (ipairs 0 n) lows (λ q m. ds (q .0) (q .1)) .0
+  farthestWith-cong : (n : ℕ) → farthestWith o n ≡ farthestWith p n
+  unfolding farthestWith
+  farthestWith-cong n = keep-cong Rd (o .less) (p .less) (λ q. o .d (q .0) (q .1)) (λ q. p .d (q .0) (q .1)) aliked (0, 0) (o .low) (p .low)
+      (indexPairs 0 n) lows (λ q m. ds (q .0) (q .1)) .0
 
   ends-cong : (n a b : ℕ) → ends o n a b ≡ ends p n a b
   unfolding ends
@@ -119,10 +119,10 @@ module _ {E F : Type 0} (Rd R : E → F → Type 0) (o : Ops E) (p : Ops F)
                 (λ _. List ℕ) [ false ↦ a ∷ c' .0 ∷ b ∷ t ∷ [] | true ↦ a ∷ t ∷ b ∷ c' .0 ∷ [] ]
           ]) (re .0)
 
-  pub iquad-cong : (n : ℕ) → iquad o n ≡ iquad p n
-  unfolding iquad
-  iquad-cong n = ap (λ (l : List ℕ). elim (ltb n 4) as (λ _. List ℕ) [ true ↦ [] | false ↦ l ])
-      (ends-cong n (fars o n .0) (fars o n .1) ∙ ap (λ (q : ℕ × ℕ). ends p n (q .0) (q .1)) (fars-cong n))
+  pub quadWith-cong : (n : ℕ) → quadWith o n ≡ quadWith p n
+  unfolding quadWith
+  quadWith-cong n = ap (λ (l : List ℕ). elim (ltb n 4) as (λ _. List ℕ) [ true ↦ [] | false ↦ l ])
+      (ends-cong n (farthestWith o n .0) (farthestWith o n .1) ∙ ap (λ (q : ℕ × ℕ). ends p n (q .0) (q .1)) (farthestWith-cong n))
 
 keep-map : {I T : Type 0} (f : I → T) (g : T → ℤ) (x : I) (u : ℤ) (is : List I)
     → amax g (f x) u (map f is) ≡ (f (keep lessZ (λ i. g (f i)) x u is .0), keep lessZ (λ i. g (f i)) x u is .1)
@@ -158,10 +158,6 @@ range-map (q ∷ Q) f i h =
     lt0 : (n : ℕ) → 0 < suc n
     lt0 n = omega arith
 
-map-++ : {I T : Type 0} (f : I → T) (xs ys : List I) → map f (xs ++ ys) ≡ map f xs ++ map f ys
-map-++ f [] ys = refl
-map-++ f (x ∷ xs) ys = ap (λ l. f x ∷ l) (map-++ f xs ys)
-
 abbrev pt2 : (ℕ → Pt) → ℕ × ℕ → Pt × Pt
 pt2 f q = (f (q .0), f (q .1))
 
@@ -173,12 +169,12 @@ map-map' f i [] = refl
 map-map' f i (j ∷ js) = ap (λ l. pt2 f (with-i i j) ∷ l) (map-map' f i js)
 
 pairs-map : (Q : List Pt) (f : ℕ → Pt) (i : ℕ) → ((j : ℕ) → j < length Q → f (i + j) ≡ ptAt Q j)
-    → map (pt2 f) (ipairs i (length Q)) ≡ pairs Q
+    → map (pt2 f) (indexPairs i (length Q)) ≡ pairs Q
 unfolding ptAt
 pairs-map [] f i h = refl
 pairs-map (q ∷ Q) f i h =
-    map-++ (pt2 f) (map (with-i i) (range (suc i) (length Q))) (ipairs (suc i) (length Q))
-    ∙ ap (λ l. l ++ map (pt2 f) (ipairs (suc i) (length Q)))
+    map-append (pt2 f) (map (with-i i) (range (suc i) (length Q))) (indexPairs (suc i) (length Q))
+    ∙ ap (λ l. l ++ map (pt2 f) (indexPairs (suc i) (length Q)))
     (map-map' f i (range (suc i) (length Q)) ∙ ap (map (with-p (f i))) (range-map Q f (suc i) h')
     ∙ ap (λ t. map (with-p t) Q) (ap f (z i) ∙ h 0 (lt0 (length Q))))
     ∙ ap (λ l. map (with-p q) Q ++ l) (pairs-map Q f (suc i) h')
@@ -202,16 +198,16 @@ zplus P j h = ap (ptAt P) (z j)
     z j = omega arith
 
 pub far-is' : (P : List Pt) → 0 < length P
-    → farthest P ≡ (ptAt P (fars (wholeOps P) (length P) .0), ptAt P (fars (wholeOps P) (length P) .1))
-unfolding farthest fars wholeOps
+    → farthest P ≡ (ptAt P (farthestWith (wholeOps P) (length P) .0), ptAt P (farthestWith (wholeOps P) (length P) .1))
+unfolding farthest farthestWith wholeOps
 far-is' [] h = absurd (no-lt h)
   where
     no-lt : 0 < 0 → ⊥
     no-lt h = omega arith
 far-is' (a ∷ l) h =
     ap (λ t. amax dist (a, a) (neg 𝟙) t .0) (sym (pairs-map (a ∷ l) (ptAt (a ∷ l)) 0 (zplus (a ∷ l))))
-    ∙ ap (λ t. amax dist (t, t) (neg 𝟙) (map (pt2 (ptAt (a ∷ l))) (ipairs 0 (length (a ∷ l)))) .0) (sym hd)
-    ∙ ap (λ r. r .0) (keep-map (pt2 (ptAt (a ∷ l))) dist (0, 0) (neg 𝟙) (ipairs 0 (length (a ∷ l))))
+    ∙ ap (λ t. amax dist (t, t) (neg 𝟙) (map (pt2 (ptAt (a ∷ l))) (indexPairs 0 (length (a ∷ l)))) .0) (sym hd)
+    ∙ ap (λ r. r .0) (keep-map (pt2 (ptAt (a ∷ l))) dist (0, 0) (neg 𝟙) (indexPairs 0 (length (a ∷ l))))
   where
     hd : ptAt (a ∷ l) 0 ≡ a
     hd = unfold ptAt in refl
@@ -333,8 +329,8 @@ module _ (P : List Pt) (a b : ℕ) where
           fin true false = refl
           fin true true = refl
 
-pub quad-is : (P : List Pt) → map (ptAt P) (iquad (wholeOps P) (length P)) ≡ quad P
-unfolding iquad quad
+pub quad-is : (P : List Pt) → map (ptAt P) (quadWith (wholeOps P) (length P)) ≡ quad P
+unfolding quadWith quad
 quad-is P = go (ltb (length P) 4) refl
   where
     enough : ltb (length P) 4 ≡ false → 0 < length P
@@ -343,8 +339,8 @@ quad-is P = go (ltb (length P) 4) refl
     go : (x : Bool) → ltb (length P) 4 ≡ x
         → _≡_ {A = List Pt} (map (ptAt P)
         (elim x as (λ _. List ℕ)
-        [ true ↦ [] | false ↦ ends (wholeOps P) (length P) (fars (wholeOps P) (length P) .0) (fars (wholeOps P) (length P) .1) ]))
+        [ true ↦ [] | false ↦ ends (wholeOps P) (length P) (farthestWith (wholeOps P) (length P) .0) (farthestWith (wholeOps P) (length P) .1) ]))
         (elim x as (λ _. List Pt) [ true ↦ [] | false ↦ corners (farthest P .0) (farthest P .1) P ])
     go true h = refl
-    go false h = corners-is P (fars (wholeOps P) (length P) .0) (fars (wholeOps P) (length P) .1)
+    go false h = corners-is P (farthestWith (wholeOps P) (length P) .0) (farthestWith (wholeOps P) (length P) .1)
         ∙ ap (λ (q : Pt × Pt). corners (q .0) (q .1) P) (sym (far-is' P (enough h)))

@@ -25,7 +25,7 @@ use lib.ListN.{length}
 use Rattle.whole.specs.Numbers.{neg, 𝟘, PP}
 use Rattle.whole.specs.Points.{Pt, cross, Mem, ptAt, Rot, NoDup, Fan, Clockwise}
 use Rattle.whole.specs.Hull.{walk, hull, startOf}
-use Rattle.whole.specs.IsHull.{dot, OnRight, Between, OnRightOfAll, OnOrInside, IsHull}
+use Rattle.whole.specs.IsHull.{OnRight, OnRightOfAll, OnOrInside, IsHull}
 use Rattle.whole.proofs.Sums.{𝟘-⊕, ⊕-neg}
 use Rattle.whole.proofs.Ord.{nn≡, pp≡, pnn, z0, anti}
 use Rattle.whole.proofs.Turns.{cyc, swap, rot2}

@@ -5,9 +5,8 @@
 -- Assumes nothing.
 use mathlib.Core.Path.{_≡_, refl, sym, _∙_, ap, subst}
 use mathlib.Core.Logic.{_⊎_, inl, inr}
-use mathlib.Core.Bool.{Bool, true, false}
 use mathlib.Core.List.{List, [], _∷_, _++_, map, reverse, reverse-cons, List·Memᴰ·head, List·Memᴰ·tail, Memᴰ·cast, List·Memᴰ·append-cases}
-use Prim.Native.Nat.{ℕ, zero, suc, _<_}
+use Prim.Native.Nat.{ℕ, suc, _<_}
 use native.Mathlib.Omega.{arith}
 use lib.ListN.{length}
 use lib.IntN.{ℤ}
@@ -96,7 +95,7 @@ snoc : (P : List Pt) (a b z : Pt) (vs : List Pt) → Run P a vs b → Mem b P �
 snoc P a b z [] r mb e = (mb, r, e)
 snoc P a b z (c ∷ cs) r mb e = (r .0, r .1, snoc P c b z cs (r .2) mb e)
 
-dot-sym : (c a b : Pt) → dot c a b ≡ dot c b a
+pub dot-sym : (c a b : Pt) → dot c a b ≡ dot c b a
 unfolding dot
 dot-sym c a b = solve (env (c ∷ a ∷ b ∷ [])) (D 0 1 2) (D 0 2 1) refl
 

@@ -23,6 +23,7 @@ use mathlib.Core.List.{
 use Prim.Native.Nat.{ℕ}
 use lib.Dec.{T}
 use lib.IntN.{ℤ, pos, negsuc}
+use Rattle.whole.proofs.Select.{flip-d}
 use Rattle.whole.specs.Numbers.{_⊕_, neg, 𝟘, 𝟙, NN, nn, PP, pp}
 use Rattle.whole.proofs.Sums.{neg-neg, ⊕-neg, neg-⊕}
 use Rattle.whole.proofs.Ring.{Expr, 𝕧, _:+_, _:-_, _:*_, :n, solve}
@@ -40,9 +41,6 @@ neg-true (negsuc n) h = pp n
 neg-false : (z : ℤ) → isNeg z ≡ false → NN z
 neg-false (pos n) h = nn n
 neg-false (negsuc n) h = absurd (mathlib.Core.Bool.true≢false h)
-
-rneg : (a b : ℤ) → neg (a ⊕ neg b) ≡ b ⊕ neg a
-rneg a b = solve (a ∷ b ∷ []) (:n (𝕧 0 :- 𝕧 1)) (𝕧 1 :- 𝕧 0) refl
 
 ring3 : (a b c : ℤ) → (a ⊕ neg b) ⊕ (b ⊕ neg c) ≡ a ⊕ neg c
 ring3 a b c = solve (a ∷ b ∷ c ∷ []) ((𝕧 0 :- 𝕧 1) :+ (𝕧 1 :- 𝕧 2)) (𝕧 0 :- 𝕧 2) refl
@@ -77,7 +75,7 @@ module _ {T : Type 0} (g : T → ℤ) where
           → Best t u (x ∷ xs) (elim b [ true ↦ amax g x (g x) xs | false ↦ amax g t u xs ])
       go true h rec = let r = rec x (g x) in record {
         from = fromx (amax g x (g x) xs) (r .from);
-        least = nn≡ (nn+ (r .least) (nn≡ (pn (neg-true _ h)) (rneg u (g x)))) (ring3 (amax g x (g x) xs .1) (g x) u);
+        least = nn≡ (nn+ (r .least) (nn≡ (pn (neg-true _ h)) (flip-d u (g x)))) (ring3 (amax g x (g x) xs .1) (g x) u);
         most = all (amax g x (g x) xs) (r .least) (r .most);
       }
       go false h rec = let r = rec t u in record {

@@ -1,29 +1,16 @@
--- A reflective solver for the identities of ℤ as a commutative ring: `solve ρ e f refl : ⟦ e ⟧ ρ ≡ ⟦ f ⟧ ρ`, for expressions of `Expr` over
--- the list ρ of numbers. Assumes nothing.
+-- A reflective solver for the identities of ℤ as a commutative ring: `solve ρ e f refl : ⟦ e ⟧ ρ ≡ ⟦ f ⟧ ρ`, for expressions of `Expr`
+-- over the list ρ of numbers.
+--     Expr, _, look, ⟦_⟧, Poly, insM, mulM, eqM, ltM, tm', addT, addP, mulT, mulP, negP, norm, solve
+-- Assumes nothing.
 use mathlib.Core.Path.{_≡_, refl, sym, _∙_, ap}
 use mathlib.Core.Bool.{Bool, true, false, _&&_}
 use mathlib.Core.List.{List, [], _∷_}
 use Prim.Native.Nat.{ℕ, zero, suc}
 use lib.Dec.{T, ltb, eqb, eqb→eq}
 use lib.IntN.{ℤ, pos, negsuc, negℤ, _+ℤ_, _*ℤ_}
+use Rattle.laws.proofs.Bools.{passed-left, passed-right}
 use Rattle.whole.specs.Numbers.{_⊕_, _⊗_, neg, 𝟘, 𝟙}
-use Rattle.whole.proofs.Sums.{
-  ⊕-assoc,
-  ⊕-comm,
-  ⊕-lcomm,
-  𝟘-⊕,
-  ⊕-𝟘,
-  ⊗-comm,
-  𝟘-⊗,
-  ⊗-𝟘,
-  𝟙-⊗,
-  ⊗-distr,
-  ⊗-distl,
-  ⊗-assoc,
-  ⊗-lcomm,
-  neg-⊕,
-  neg-⊗,
-}
+use Rattle.whole.proofs.Sums.{⊕-assoc, ⊕-comm, ⊕-lcomm, 𝟘-⊕, ⊕-𝟘, ⊗-comm, 𝟘-⊗, ⊗-𝟘, 𝟙-⊗, ⊗-distr, ⊗-distl, ⊗-assoc, ⊗-lcomm, neg-⊕, neg-⊗}
 
 infixl 6 _:+_
 infixl 6 _:-_
@@ -133,20 +120,12 @@ module _ (ρ : List ℤ) where
   mulM-ok [] m = sym (𝟙-⊗ (evM m))
   mulM-ok (i ∷ a) m = insM-ok i (mulM a m) ∙ ap (λ x. look ρ i ⊗ x) (mulM-ok a m) ∙ sym (⊗-assoc (look ρ i) (evM a) (evM m))
 
-and-l : (a b : Bool) → T (a && b) → T a
-and-l true b t = tt
-and-l false b t = t
-
-and-r : (a b : Bool) → T (a && b) → T b
-and-r true b t = t
-and-r false b t = absurd t
-
 eqM-ok : (a b : List ℕ) → T (eqM a b) → a ≡ b
 eqM-ok [] [] t = refl
 eqM-ok [] (j ∷ b) t = absurd t
 eqM-ok (i ∷ a) [] t = absurd t
-eqM-ok (i ∷ a) (j ∷ b) t = let p : i ≡ j = eqb→eq i j (and-l (eqb i j) (eqM a b) t) in let q : a ≡ b =
-    eqM-ok a b (and-r (eqb i j) (eqM a b) t) in cc
+eqM-ok (i ∷ a) (j ∷ b) t = let p : i ≡ j = eqb→eq i j (passed-left (eqb i j) (eqM a b) t) in let q : a ≡ b =
+    eqM-ok a b (passed-right (eqb i j) (eqM a b) t) in cc
 
 module _ (ρ : List ℤ) where
   tm'-ok : (c : ℤ) (m : List ℕ) (p : Poly) → evP ρ (tm' c m p) ≡ c ⊗ evM ρ m ⊕ evP ρ p

@@ -5,21 +5,8 @@
 -- Assumes nothing.
 use mathlib.Core.Path.{_≡_, refl, sym, ap, _∙_, subst}
 use mathlib.Core.Logic.{_⊎_, inl, inr}
-use mathlib.Core.List.{
-  List,
-  [],
-  _∷_,
-  _++_,
-  append-assoc,
-  append-nil,
-  List·Memᴰ,
-  List·Memᴰ·head,
-  List·Memᴰ·tail,
-  Memᴰ·append-left,
-  Memᴰ·append-right,
-  List·Memᴰ·append-cases,
-}
-use Rattle.whole.specs.Numbers.{_⊕_, neg, 𝟘, NN, PP}
+use mathlib.Core.List.{List, [], _∷_, _++_, append-assoc, append-nil, List·Memᴰ·head, List·Memᴰ·tail, Memᴰ·append-right, List·Memᴰ·append-cases}
+use Rattle.whole.specs.Numbers.{PP}
 use Rattle.whole.specs.Points.{Pt, cross, Mem, Rot, NoDup, Fan, Clockwise}
 use Rattle.whole.specs.Hull.{hull, walk}
 use Rattle.whole.proofs.Ord.{pn, pp≡, p0}
@@ -27,7 +14,7 @@ use Rattle.whole.proofs.Turns.{cyc}
 use Rattle.whole.proofs.Edge.{Side, side-first, side-second, Edge}
 use Rattle.whole.proofs.Run.{Run}
 use Rattle.whole.proofs.Moved.{hull-of-closed}
-use Rattle.whole.specs.IsHull.{OnRight, OnRightOfAll}
+use Rattle.whole.specs.IsHull.{OnRightOfAll}
 
 -- ---- the way round in two parts
 pub around-split : (p a : Pt) (xs : List Pt) (b : Pt) (ys : List Pt) (z : Pt) → OnRightOfAll p a (xs ++ b ∷ ys) z

@@ -15,7 +15,7 @@ use Rattle.whole.specs.Hull.{isNeg, isZero, better, step, select}
 flip-0 : (c n i : Pt) → cross c i n ≡ 𝟘 → cross c n i ≡ 𝟘
 flip-0 c n i e = swap c i n ∙ ap neg e ∙ sym (𝟘-⊕ (neg 𝟘)) ∙ ⊕-neg 𝟘
 
-flip-d : (a b : ℤ) → neg (a ⊕ neg b) ≡ b ⊕ neg a
+pub flip-d : (a b : ℤ) → neg (a ⊕ neg b) ≡ b ⊕ neg a
 flip-d a b = neg-⊕ a (neg b) ∙ ap (λ t. neg a ⊕ t) (neg-neg b) ∙ ⊕-comm (neg a) b
 
 neg-nn : (n : ℕ) → NN (neg (negsuc n))

@@ -1,5 +1,8 @@
 -- The laws of ℤ that lib.IntN lacks, over the shut operations: ⊕-.., ⊗-.., neg-.., the product associates and distributes over the sum;
--- `cancel`, `sub-nat`. Assumes nothing.
+-- `cancel`, `sub-nat`.
+--     ⊕-assoc, ⊕-comm, ⊕-lcomm, 𝟘-⊕, ⊕-𝟘, ⊕-neg, ⊗-comm, 𝟘-⊗, ⊗-𝟘, 𝟙-⊗, ⊗-distr, ⊗-distl, cancel, neg-⊗, ⊗-assoc, ⊗-lcomm, neg-⊕,
+--     neg-neg, sub-nat
+-- Assumes nothing.
 use mathlib.Core.Path.{refl, _≡_, sym, _∙_, ap, subst}
 use Prim.Native.Nat.{ℕ, _+_, _-_, _≤_}
 use native.Mathlib.Omega.{arith}

@@ -12,7 +12,7 @@ use lib.IntN.{ℤ, pos}
 use Rattle.whole.specs.Numbers.{_⊕_, _⊗_, neg, 𝟘, NN, PP}
 use Rattle.whole.proofs.Sums.{𝟘-⊕, ⊗-𝟘, ⊕-neg}
 use Rattle.whole.proofs.Ring.{Expr, 𝕧, 𝕜, _:+_, _:-_, _:*_, :n, solve}
-use Rattle.whole.proofs.Ord.{above, pn, nn+, nn*, p0, nn≡, z0, anti, divN, div0, sqN, sq0, sum0, sub0}
+use Rattle.whole.proofs.Ord.{pn, nn+, nn*, p0, nn≡, z0, anti, divN, div0, sqN, sq0, sum0, sub0}
 use Rattle.whole.specs.Points.{Pt, cross, d2}
 
 pub pt≡ : (a b : Pt) → a .x ≡ b .x → a .y ≡ b .y → a ≡ b

@@ -6,7 +6,7 @@ use Rattle.whole.specs.Points.{Pt, Rot, Clockwise}
 use Rattle.whole.specs.Hull.{hull}
 use Rattle.whole.specs.IsHull.{IsHull}
 use Rattle.whole.specs.Quad.{quad, Far, OneTop}
-use Rattle.whole.specs.Moves.{pointOf, movedRound, Same}
+use Rattle.whole.specs.Moves.{movedPoint, movedRound, Same}
 
 -- Two lists of points, the second with the moved points of the first, in whatever order and however often: the second's hull is the
 -- first's, moved, clockwise from its own start; and the quad is the first's, moved, clockwise from some corner, where one pair of vertices
@@ -17,7 +17,7 @@ pub record OutlineMoved (m : Move) (w h : ℕ) (P Q : List Pt) : Type 0 where
       → Rot (movedRound m w h (quad (hull P))) (quad (hull Q)) × Clockwise (quad (hull Q))
 
 unfoldable pub OutlinesMoved : Type 0
-OutlinesMoved = (m : Move) (w h : ℕ) (P Q : List Pt) → Same (map (pointOf m w h) P) Q → OutlineMoved m w h P Q
+OutlinesMoved = (m : Move) (w h : ℕ) (P Q : List Pt) → Same (map (movedPoint m w h) P) Q → OutlineMoved m w h P Q
 
 -- The walk gives the hull of its points
 unfoldable pub HullsAre : Type 0

@@ -1,4 +1,4 @@
--- What a convex hull is, and where its list starts, as document 01 has it under "Hull and quad" and "Equal", in the words of the request on
+-- What a convex hull is, and where its list starts, by rules 18 to 20 and rule 39, in the words of the request on
 -- outlines in whole numbers. x is right and y is down, so that clockwise is as on the screen. Definitions only. Assumes nothing.
 use mathlib.Core.Path.{_≡_}
 use mathlib.Core.List.{List, [], _∷_, _++_}
@@ -40,7 +40,7 @@ pub record IsHull (P vs : List Pt) : Type 0 where
   pub points : (v : Pt) → Mem v vs → Mem v P
   -- "and no vertex lies on or inside the hull of the others"
   pub needed : (xs : List Pt) (v : Pt) (ys : List Pt) → vs ≡ xs ++ v ∷ ys → ¬ OnOrInside v (hull (xs ++ ys))
-  -- "Their order is 01's": each once, clockwise, from the one with least x, then least y
+  -- Their order: each once, clockwise, from the one with least x, then least y
   pub distinct : NoDup vs
   pub clockwise : Clockwise vs
   pub starts : Starts vs P

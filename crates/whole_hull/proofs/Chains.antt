@@ -18,7 +18,7 @@ use Rattle.whole.specs.Points.{cross}
 use Rattle.whole.proofs.Ord.{pn, nn≡, p0, z0, nsplit}
 use Rattle.whole.proofs.Turns.{cross-o, cross-same}
 use Rattle.hull.specs.Points.{ptOf}
-use Rattle.whole_hull.specs.Chain.{Full, pt, Right, Links, Last, Chain, Ready, Steep, stackOf, Inside}
+use Rattle.whole_hull.specs.Inner.{Full, pt, Right, Links, Last, Chain, ChainReady, Steep, stackOf, PlacesWithin}
 use Rattle.whole_hull.proofs.Turns.{nn-sub, pp-sub, under-near, under-far, behind, before}
 
 module _ (A : ℕ → ℕ) where
@@ -48,7 +48,7 @@ module _ (A : ℕ → ℕ) where
       go w lw f (inr a) = a
 
   -- ---- points from left to right only
-  module _ (left right : ℕ) (i : Inside A left right) where
+  module _ (left right : ℕ) (i : PlacesWithin A left right) where
     pub chain-begin : Chain A left []
     chain-begin = chain-none left (λ w lw f. let q = i .places w f in omega arith)
 
@@ -57,7 +57,7 @@ module _ (A : ℕ → ℕ) where
 
   -- ---- a place with a point
   module _ (e : ℕ) (full : Full A e) where
-    pub ready-begin : (l : List ℕ) → Chain A e l → Ready A e l
+    pub ready-begin : (l : List ℕ) → Chain A e l → ChainReady A e l
     ready-begin [] c = c .links
     ready-begin (x ∷ l) c = (
       c .links,
@@ -78,7 +78,7 @@ module _ (A : ℕ → ℕ) where
     below x (u ∷ l) k = k .1
 
     -- the last vertex goes
-    pub ready-pop : (x u : ℕ) (l : List ℕ) → Ready A e (x ∷ u ∷ l) → NN (neg (cross (pt A u) (pt A x) (pt A e))) → Ready A e (u ∷ l)
+    pub ready-pop : (x u : ℕ) (l : List ℕ) → ChainReady A e (x ∷ u ∷ l) → NN (neg (cross (pt A u) (pt A x) (pt A e))) → ChainReady A e (u ∷ l)
     ready-pop x u l r h =
         let k = r .0 in
         (k .4, λ w lw f uw. go w lw f uw (le-or-lt x w))
@@ -137,7 +137,7 @@ module _ (A : ℕ → ℕ) where
         nope u l z = let n : suc (length l) ≡ 0 = ap length z in omega arith
 
     -- what lies before the last vertex lies on the right of the new edge
-    new-right : (x : ℕ) (l : List ℕ) → Ready A e (x ∷ l) → Steep A e (x ∷ l) → (w : ℕ) → w < e + 1 → Full A w → Right A x e w
+    new-right : (x : ℕ) (l : List ℕ) → ChainReady A e (x ∷ l) → Steep A e (x ∷ l) → (w : ℕ) → w < e + 1 → Full A w → Right A x e w
     new-right x l r h w lw f = go (at-or-below w e (omega arith)) (le-or-lt x w)
       where
         first : (l : List ℕ) → Links A e (x ∷ l) → Steep A e (x ∷ l) → w < e → w < x → PP (cross (pt A x) (pt A e) (pt A w))
@@ -156,7 +156,7 @@ module _ (A : ℕ → ℕ) where
     new-last : (w : ℕ) → w < e + 1 → Full A w → w ≤ e
     new-last w lw f = omega arith
 
-    pub chain-first : Ready A e [] → Chain A (e + 1) (e ∷ [])
+    pub chain-first : ChainReady A e [] → Chain A (e + 1) (e ∷ [])
     chain-first r = record {
       links = (full, omega arith, λ w lw f. go w f (at-or-below w e (omega arith)));
       last = new-last;
@@ -166,7 +166,7 @@ module _ (A : ℕ → ℕ) where
         go w f (inl z) = omega arith
         go w f (inr b) = absurd (r w b f)
 
-    pub chain-push : (x : ℕ) (l : List ℕ) → Ready A e (x ∷ l) → Steep A e (x ∷ l) → Chain A (e + 1) (e ∷ x ∷ l)
+    pub chain-push : (x : ℕ) (l : List ℕ) → ChainReady A e (x ∷ l) → Steep A e (x ∷ l) → Chain A (e + 1) (e ∷ x ∷ l)
     chain-push x l r h = record {
       links = (full, omega arith, below x l (r .0), new-right x l r h, links-new (x ∷ l) (r .0) h (λ z. nope x l z));
       last = new-last;

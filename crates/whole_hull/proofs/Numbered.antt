@@ -18,7 +18,7 @@ use Rattle.whole.specs.Points.{Pt, Mem, LexLe}
 use Rattle.whole.proofs.Sums.{⊕-neg}
 use Rattle.whole.proofs.Edge.{Edge}
 use Rattle.hull.specs.Points.{ptOf}
-use Rattle.whole_hull.specs.Chain.{Full, Right, Links, stackOf, upTo}
+use Rattle.whole_hull.specs.Inner.{Full, Right, Links, stackOf, listUpTo}
 use Rattle.whole_hull.proofs.Turns.{nn-sub, pp-sub}
 use Rattle.whole_hull.proofs.Ways.{Way, way-snoc}
 
@@ -74,22 +74,22 @@ module _ (A : ℕ → ℕ) (e : ℕ) (s : List ℕ) where
       go (inr b) ih = let z : suc n ≡ i = omega arith in subst (λ (i : ℕ). S 0 < S i) z (rising (suc n) k 0 (omega arith))
 
 -- ---- lists
-pub upTo-cons : {B : Type 0} (f : ℕ → B) (n : ℕ) → upTo f (suc n) ≡ f 0 ∷ upTo (λ i. f (suc i)) n
-unfolding upTo
+pub upTo-cons : {B : Type 0} (f : ℕ → B) (n : ℕ) → listUpTo f (suc n) ≡ f 0 ∷ listUpTo (λ i. f (suc i)) n
+unfolding listUpTo
 upTo-cons f zero = refl
 upTo-cons {B} f (suc n) = ap (λ (l : List B). l ++ (f (suc n) ∷ [])) (upTo-cons f n)
 
-pub upTo-map : {B C : Type 0} (g : B → C) (f : ℕ → B) (n : ℕ) → map g (upTo f n) ≡ upTo (λ i. g (f i)) n
-unfolding upTo
+pub upTo-map : {B C : Type 0} (g : B → C) (f : ℕ → B) (n : ℕ) → map g (listUpTo f n) ≡ listUpTo (λ i. g (f i)) n
+unfolding listUpTo
 upTo-map g f zero = refl
-upTo-map {B} {C} g f (suc n) = map-append g (upTo f n) (f n ∷ []) ∙ ap (λ (l : List C). l ++ (g (f n) ∷ [])) (upTo-map g f n)
+upTo-map {B} {C} g f (suc n) = map-append g (listUpTo f n) (f n ∷ []) ∙ ap (λ (l : List C). l ++ (g (f n) ∷ [])) (upTo-map g f n)
 
 pub way-up : (P : List Pt) (f : ℕ → Pt) (n : ℕ) → ((i : ℕ) → i ≤ n → Mem (f i) P) → ((i : ℕ) → i < n → Edge P (f i) (f (suc i)))
-    → Way P (f 0) (upTo f n) (f n)
-unfolding upTo
+    → Way P (f 0) (listUpTo f n) (f n)
+unfolding listUpTo
 way-up P f zero m e = refl
 way-up P f (suc n) m e =
-    way-snoc P (f 0) (f n) (f (suc n)) (upTo f n) (way-up P f n (λ i l. m i (omega arith)) (λ i l. e i (omega arith))) (m n (omega arith))
+    way-snoc P (f 0) (f n) (f (suc n)) (listUpTo f n) (way-up P f n (λ i l. m i (omega arith)) (λ i l. e i (omega arith))) (m n (omega arith))
     (e n (omega arith))
 
 -- every element of a list passes
@@ -101,10 +101,10 @@ pub all-append : {B : Type 0} (R : B → Type 0) (l m : List B) → All R l → 
 all-append R [] m h k = k
 all-append R (q ∷ l) m h k = (h .0, all-append R l m (h .1) k)
 
-pub all-upTo : {B : Type 0} (R : B → Type 0) (f : ℕ → B) (n : ℕ) → ((i : ℕ) → i < n → R (f i)) → All R (upTo f n)
-unfolding upTo
+pub all-upTo : {B : Type 0} (R : B → Type 0) (f : ℕ → B) (n : ℕ) → ((i : ℕ) → i < n → R (f i)) → All R (listUpTo f n)
+unfolding listUpTo
 all-upTo R f zero h = tt
-all-upTo R f (suc n) h = all-append R (upTo f n) (f n ∷ []) (all-upTo R f n (λ i l. h i (omega arith))) (h n (omega arith), tt)
+all-upTo R f (suc n) h = all-append R (listUpTo f n) (f n ∷ []) (all-upTo R f n (λ i l. h i (omega arith))) (h n (omega arith), tt)
 
 -- ---- the order by x, then y
 pub lex-below : (x y u w : ℕ) → u ≡ x → y ≤ w → LexLe (ptOf (x, y)) (ptOf (u, w))

@@ -8,9 +8,10 @@ use mathlib.Core.Bool.{true, false}
 use mathlib.Core.List.{List}
 use Prim.Native.Nat.{ℕ, _+_, _-_, _≤_, _<_}
 use native.Mathlib.Omega.{arith}
+use Rattle.laws.specs.Plane.{valueAt}
 use Rattle.laws.proofs.Bools.{at-or-below}
 use Rattle.doubled.specs.Points.{xAt}
-use Rattle.whole_hull.specs.Chain.{at, Tops, Spans, Inside}
+use Rattle.whole_hull.specs.Inner.{Tops, Spans, PlacesWithin}
 
 pub spans-step : (p : List ℕ) (k x left right l r : ℕ) → x ≡ xAt p k → Spans p k left right → l ≤ left → right ≤ r → l ≤ x → x ≤ r
     → r ≤ 8192 → Spans p (k + 1) l r
@@ -25,14 +26,14 @@ spans-step p k x left right l r is s hl hr lx xr wide = record {
     go i (inr b) = let q = s .places i b in (omega arith, omega arith)
 
 module _ {p : List ℕ} {k left right : ℕ} (s : Spans p k left right) {a : List ℕ} where
-  pub inside-on : Tops false p k a → Inside (at a) left right
+  pub inside-on : Tops false p k a → PlacesWithin (valueAt a) left right
   inside-on t = record {
     order = s .order;
     wide = s .wide;
     places = λ w f. let r = t .is w f in let q = s .places (r .0) (r .1) in let e = r .2 in (omega arith, omega arith);
   }
 
-  pub inside-back : Tops true p k a → Inside (at a) (8192 - right) (8192 - left)
+  pub inside-back : Tops true p k a → PlacesWithin (valueAt a) (8192 - right) (8192 - left)
   inside-back t = record {
     order = let o = s .order in omega arith;
     wide = omega arith;

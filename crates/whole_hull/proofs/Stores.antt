@@ -18,6 +18,7 @@ use lib.ListN.{length, getD, set, replicate, length-set, length-replicate, getD-
 use lib.Seq.{getD-set-other, getD-set-same}
 use lib.IntN.{ℤ, pos}
 use borrow.Author.Tests.{ltb-true, ltb-false, lt-ltb, le-ltb}
+use Rattle.laws.specs.Plane.{valueAt}
 use Rattle.laws.specs.Lent.{Stored}
 use Rattle.laws.proofs.Bools.{at-or-below}
 use Rattle.whole.specs.Numbers.{_⊕_, _⊗_, neg, NN, PP}
@@ -27,8 +28,7 @@ use Rattle.whole.proofs.Ord.{nn≡, pp≡}
 use Rattle.whole.proofs.Turns.{X, Y, C}
 use Rattle.hull.specs.Points.{ptOf, numbersOf}
 use Rattle.doubled.specs.Points.{xAt, yAt}
-use Rattle.whole_hull.specs.Chain.{Full, pt, Links, Chain, Ready, Steep, stackOf, sumL, sumR, at, seen, Tops}
-use Rattle.whole_hull.specs.Steps.{lowered}
+use Rattle.whole_hull.specs.Inner.{Full, pt, Links, Chain, ChainReady, Steep, stackOf, sumL, sumR, seen, Tops, lowered}
 use Rattle.whole_hull.proofs.Turns.{nn-sub, pp-sub}
 use Rattle.whole_hull.proofs.Chains.{ready-pop, chain-skip, chain-first, chain-push, stack-push}
 
@@ -71,17 +71,17 @@ module _ (A : ℕ → ℕ) (e : ℕ) (f : Full A e) (s : List ℕ) (m : ℕ) (mo
   unfolding stackOf
   one = let z : m - 1 ≡ suc (m - 2) = omega arith in ap (stackOf s) z
 
-  pub kept-full : Ready A e (stackOf s m)
+  pub kept-full : ChainReady A e (stackOf s m)
       → Full A (getD s (m - 2) 0) × Full A (getD s (m - 1) 0) × (getD s (m - 2) 0 < getD s (m - 1) 0) × (getD s (m - 1) 0 < e)
   kept-full r =
-      let q = subst (Ready A e) two r in
+      let q = subst (ChainReady A e) two r in
       (links-head A e (getD s (m - 2) 0) (stackOf s (m - 2)) (q .0 .4), q .0 .0, q .0 .2, q .0 .1)
 
-  pub kept-pop : Ready A e (stackOf s m) → sumL A (getD s (m - 2) 0) (getD s (m - 1) 0) e ≤ sumR A (getD s (m - 2) 0) (getD s (m - 1) 0) e
-      → Ready A e (stackOf s (m - 1))
+  pub kept-pop : ChainReady A e (stackOf s m) → sumL A (getD s (m - 2) 0) (getD s (m - 1) 0) e ≤ sumR A (getD s (m - 2) 0) (getD s (m - 1) 0) e
+      → ChainReady A e (stackOf s (m - 1))
   kept-pop r l =
-      subst (Ready A e) (sym one)
-      (ready-pop A e f (getD s (m - 1) 0) (getD s (m - 2) 0) (stackOf s (m - 2)) (subst (Ready A e) two r)
+      subst (ChainReady A e) (sym one)
+      (ready-pop A e f (getD s (m - 1) 0) (getD s (m - 2) 0) (stackOf s (m - 2)) (subst (ChainReady A e) two r)
       (behind-yes A (getD s (m - 2) 0) (getD s (m - 1) 0) e l))
 
   pub kept-stop : sumR A (getD s (m - 2) 0) (getD s (m - 1) 0) e < sumL A (getD s (m - 2) 0) (getD s (m - 1) 0) e → Steep A e (stackOf s m)
@@ -97,11 +97,11 @@ kept-few A e s (suc (suc m)) l = absurd (omega arith)
 pub placed-skip : (A : ℕ → ℕ) (e : ℕ) (l : List ℕ) → 8192 < A e → Chain A e l → Chain A (e + 1) l
 placed-skip A e l h c = chain-skip A e l (λ f. let z = f .1 in omega arith) c
 
-pub placed-push : (A : ℕ → ℕ) (e : ℕ) (s : List ℕ) (m : ℕ) → Full A e → m < length s → Ready A e (stackOf s m) → Steep A e (stackOf s m)
+pub placed-push : (A : ℕ → ℕ) (e : ℕ) (s : List ℕ) (m : ℕ) → Full A e → m < length s → ChainReady A e (stackOf s m) → Steep A e (stackOf s m)
     → Chain A (e + 1) (stackOf (set s m e) (m + 1))
 placed-push A e s m f l r h = subst (Chain A (e + 1)) (sym (stack-push s m e l)) (go (stackOf s m) r h)
   where
-    go : (l : List ℕ) → Ready A e l → Steep A e l → Chain A (e + 1) (e ∷ l)
+    go : (l : List ℕ) → ChainReady A e l → Steep A e l → Chain A (e + 1) (e ∷ l)
     go [] r h = chain-first A e f r
     go (x ∷ l) r h = chain-push A e f x l r h
 
@@ -118,70 +118,70 @@ module _ (o : Bool) (p : List ℕ) (k : ℕ) (a : List ℕ) (t : Tops o p k a) (
   inside : x < length a
   inside = let z = t .size in omega arith
 
-  here : at (set a x y) x ≡ y
+  here : valueAt (set a x y) x ≡ y
   here = getD-set-same a x y 0 inside
 
-  other : (i : ℕ) → (i ≡ x → ⊥) → at (set a x y) i ≡ at a i
+  other : (i : ℕ) → (i ≡ x → ⊥) → valueAt (set a x y) i ≡ valueAt a i
   other i ne = getD-set-other a x i y 0 ne
 
-  low : y < at a x → Tops o p (k + 1) (set a x y)
+  low : y < valueAt a x → Tops o p (k + 1) (set a x y)
   low h = record {
     size = length-set a x y ∙ t .size;
     above = λ i l. go i (at-or-below i k (omega arith)) (ℕ-discrete (seen o (xAt p i)) x);
     is = λ w f. was w f (ℕ-discrete w x);
   }
     where
-      go : (i : ℕ) → (i ≡ k) ⊎ (i < k) → Dec (seen o (xAt p i) ≡ x) → at (set a x y) (seen o (xAt p i)) ≤ seen o (yAt p i)
+      go : (i : ℕ) → (i ≡ k) ⊎ (i < k) → Dec (seen o (xAt p i) ≡ x) → valueAt (set a x y) (seen o (xAt p i)) ≤ seen o (yAt p i)
       go i (inl e) (yes q) =
-          let z : at (set a x y) (seen o (xAt p i)) ≡ y = ap (at (set a x y)) q ∙ here in
+          let z : valueAt (set a x y) (seen o (xAt p i)) ≡ y = ap (valueAt (set a x y)) q ∙ here in
           let v : y ≡ seen o (yAt p i) = ey ∙ ap (λ (n : ℕ). seen o (yAt p n)) (sym e) in
           omega arith
       go i (inl e) (no q) = absurd (q (ap (λ (n : ℕ). seen o (xAt p n)) e ∙ sym ex))
       go i (inr b) (yes q) =
-          let z : at (set a x y) (seen o (xAt p i)) ≡ y = ap (at (set a x y)) q ∙ here in
+          let z : valueAt (set a x y) (seen o (xAt p i)) ≡ y = ap (valueAt (set a x y)) q ∙ here in
           let v = t .above i b in
-          let w : at a (seen o (xAt p i)) ≡ at a x = ap (at a) q in
+          let w : valueAt a (seen o (xAt p i)) ≡ valueAt a x = ap (valueAt a) q in
           omega arith
       go i (inr b) (no q) = let z = other (seen o (xAt p i)) q in let v = t .above i b in omega arith
 
-      was : (w : ℕ) → Full (at (set a x y)) w → Dec (w ≡ x)
-          → (i : ℕ) × (i < k + 1) × (seen o (xAt p i) ≡ w) × (seen o (yAt p i) ≡ at (set a x y) w)
-      was w f (yes q) = (k, omega arith, sym ex ∙ sym q, sym ey ∙ sym here ∙ ap (at (set a x y)) (sym q))
+      was : (w : ℕ) → Full (valueAt (set a x y)) w → Dec (w ≡ x)
+          → (i : ℕ) × (i < k + 1) × (seen o (xAt p i) ≡ w) × (seen o (yAt p i) ≡ valueAt (set a x y) w)
+      was w f (yes q) = (k, omega arith, sym ex ∙ sym q, sym ey ∙ sym here ∙ ap (valueAt (set a x y)) (sym q))
       was w f (no q) =
           let e = other w q in
           let r = t .is w (f .0, subst (λ (n : ℕ). n ≤ 8192) e (f .1)) in
           (r .0, omega (arith, r .1), r .2, r .3 ∙ sym e)
 
-  same : at a x ≤ y → Tops o p (k + 1) a
+  same : valueAt a x ≤ y → Tops o p (k + 1) a
   same h = record {
     size = t .size;
     above = λ i l. go i (at-or-below i k (omega arith));
     is = λ w f. let r = t .is w f in (r .0, omega (arith, r .1), r .2, r .3);
   }
     where
-      go : (i : ℕ) → (i ≡ k) ⊎ (i < k) → at a (seen o (xAt p i)) ≤ seen o (yAt p i)
+      go : (i : ℕ) → (i ≡ k) ⊎ (i < k) → valueAt a (seen o (xAt p i)) ≤ seen o (yAt p i)
       go i (inl e) =
           let u : seen o (xAt p i) ≡ x = ap (λ (n : ℕ). seen o (xAt p n)) e ∙ sym ex in
           let v : seen o (yAt p i) ≡ y = ap (λ (n : ℕ). seen o (yAt p n)) e ∙ sym ey in
-          let z : at a (seen o (xAt p i)) ≡ at a x = ap (at a) u in
+          let z : valueAt a (seen o (xAt p i)) ≡ valueAt a x = ap (valueAt a) u in
           omega arith
       go i (inr b) = t .above i b
 
   pub tops-step : Tops o p (k + 1) (lowered a x y)
   unfolding lowered
-  tops-step = go (ltb y (at a x)) refl
+  tops-step = go (ltb y (valueAt a x)) refl
     where
-      go : (z : Bool) → ltb y (at a x) ≡ z → Tops o p (k + 1) (cond z (set a x y) a)
-      go true e = low (ltb-true y (at a x) e)
-      go false e = same (ltb-false y (at a x) e)
+      go : (z : Bool) → ltb y (valueAt a x) ≡ z → Tops o p (k + 1) (cond z (set a x y) a)
+      go true e = low (ltb-true y (valueAt a x) e)
+      go false e = same (ltb-false y (valueAt a x) e)
 
-pub lowered-yes : (a : List ℕ) (x y : ℕ) → y < at a x → set a x y ≡ lowered a x y
+pub lowered-yes : (a : List ℕ) (x y : ℕ) → y < valueAt a x → set a x y ≡ lowered a x y
 unfolding lowered
-lowered-yes a x y l = sym (ap (λ (z : Bool). cond z (set a x y) a) (lt-ltb y (at a x) l))
+lowered-yes a x y l = sym (ap (λ (z : Bool). cond z (set a x y) a) (lt-ltb y (valueAt a x) l))
 
-pub lowered-no : (a : List ℕ) (x y : ℕ) → at a x ≤ y → a ≡ lowered a x y
+pub lowered-no : (a : List ℕ) (x y : ℕ) → valueAt a x ≤ y → a ≡ lowered a x y
 unfolding lowered
-lowered-no a x y l = sym (ap (λ (z : Bool). cond z (set a x y) a) (le-ltb y (at a x) l))
+lowered-no a x y l = sym (ap (λ (z : Bool). cond z (set a x y) a) (le-ltb y (valueAt a x) l))
 
 pub seen-back : (o : Bool) (n : ℕ) → o ≡ true → 8192 - n ≡ seen o n
 seen-back true n e = refl
@@ -193,7 +193,7 @@ seen-on true n e = absurd (mathlib.Core.Bool.true≢false e)
 
 pub lowered-length : (a : List ℕ) (x y : ℕ) → length (lowered a x y) ≡ length a
 unfolding lowered
-lowered-length a x y = go (ltb y (at a x))
+lowered-length a x y = go (ltb y (valueAt a x))
   where
     go : (z : Bool) → length (cond z (set a x y) a) ≡ length a
     go true = length-set a x y

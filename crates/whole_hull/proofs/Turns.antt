@@ -18,7 +18,7 @@ use Rattle.whole.proofs.Ring.{_:+_, _:-_, _:*_, :n, solve}
 use Rattle.whole.proofs.Ord.{pn, nn+, np+, pn+, nn*, pp*, nn≡, pp≡, divN, divP}
 use Rattle.whole.specs.IsHull.{dot}
 use Rattle.whole.proofs.Turns.{X, Y, C, D, S, env, d2N}
-use Rattle.whole_hull.specs.Chain.{sumL, sumR}
+use Rattle.whole_hull.specs.Inner.{sumL, sumR}
 
 pub nn-sub : (a b : ℕ) → b ≤ a → NN (pos a ⊕ neg (pos b))
 nn-sub a b l = nn≡ (nn (a - b)) (sub-nat a b l)

@@ -14,6 +14,7 @@ use Prim.Native.Nat.{ℕ, zero, suc, _+_, _-_, _*_, _≤_, _<_}
 use native.Mathlib.Omega.{arith}
 use lib.ListN.{getD}
 use lib.IntN.{ℤ, pos}
+use Rattle.laws.specs.Plane.{valueAt}
 use Rattle.whole.specs.Numbers.{_⊕_, _⊗_, neg, 𝟘, NN, PP}
 use Rattle.whole.specs.Points.{Pt, cross, Mem}
 use Rattle.whole.proofs.Sums.{sub-nat}
@@ -25,7 +26,7 @@ use Rattle.whole.proofs.Edge.{Side, Edge}
 use Rattle.whole.proofs.Run.{Run}
 use Rattle.hull.specs.Points.{ptOf, ptsOf, many}
 use Rattle.doubled.specs.Points.{pairsOf, xAt, yAt, Bounded}
-use Rattle.whole_hull.specs.Chain.{Full, pt, Right, at, seen, Tops}
+use Rattle.whole_hull.specs.Inner.{Full, pt, Right, seen, Tops}
 use Rattle.whole_hull.proofs.Turns.{nn-sub, pp-sub, between}
 
 -- ---- ways
@@ -78,7 +79,7 @@ module _ (p : List ℕ) where
   seen-le b false i l = (b (2 * i) (omega arith), b (2 * i + 1) (omega arith))
   seen-le b true i l = (omega arith, omega arith)
 
-  pub full-at : Bounded p → (o : Bool) (a : List ℕ) → Tops o p (many p) a → (i : ℕ) → i < many p → Full (at a) (seen o (xAt p i))
+  pub full-at : Bounded p → (o : Bool) (a : List ℕ) → Tops o p (many p) a → (i : ℕ) → i < many p → Full (valueAt a) (seen o (xAt p i))
   full-at b o a t i l = let s = seen-le b o i l in let u = t .above i l in (omega arith, omega arith)
 
   -- a point below one of the same x
@@ -96,24 +97,24 @@ module _ (p : List ℕ) where
 
   -- an edge between two vertices
   pub edge-of : Bounded p → (o : Bool) (a : List ℕ) → Tops o p (many p) a → (u x : ℕ) → u < x
-      → ((w : ℕ) → w < 8193 → Full (at a) w → Right (at a) u x w) → EdgeI o (pt (at a) u) (pt (at a) x)
+      → ((w : ℕ) → w < 8193 → Full (valueAt a) w → Right (valueAt a) u x w) → EdgeI o (pt (valueAt a) u) (pt (valueAt a) x)
   unfolding Side
   edge-of b o a t u x ux right i l =
       let w = seen o (xAt p i) in
       let f = full-at b o a t i l in
       let r = right w (f .0) f in
       let up = t .above i l in
-      let low : NN (pos (seen o (yAt p i)) ⊕ neg (pos (at a w))) = nn-sub (seen o (yAt p i)) (at a w) up in
+      let low : NN (pos (seen o (yAt p i)) ⊕ neg (pos (valueAt a w))) = nn-sub (seen o (yAt p i)) (valueAt a w) up in
       let wide : PP (pos x ⊕ neg (pos u)) = pp-sub x u ux in
-      let e : cross (pt (at a) u) (pt (at a) x) (Q o i)
-      ≡ cross (pt (at a) u) (pt (at a) x) (pt (at a) w) ⊕ (pos x ⊕ neg (pos u)) ⊗ (pos (seen o (yAt p i)) ⊕ neg (pos (at a w))) =
-      lower-by (pt (at a) u) (pt (at a) x) w (at a w) (seen o (yAt p i)) (pos x ⊕ neg (pos u)) (unfold ptOf in refl) in (
+      let e : cross (pt (valueAt a) u) (pt (valueAt a) x) (Q o i)
+      ≡ cross (pt (valueAt a) u) (pt (valueAt a) x) (pt (valueAt a) w) ⊕ (pos x ⊕ neg (pos u)) ⊗ (pos (seen o (yAt p i)) ⊕ neg (pos (valueAt a w))) =
+      lower-by (pt (valueAt a) u) (pt (valueAt a) x) w (valueAt a w) (seen o (yAt p i)) (pos x ⊕ neg (pos u)) (unfold ptOf in refl) in (
         nn≡ (nn+ (r .0) (nn* (pn wide) low)) (sym e),
         λ z.
             let s = sum0 (r .0) (nn* (pn wide) low) (sym e ∙ z) in
             let k = r .1 (s .0) in
-            between (pt (at a) u) (pt (at a) x) (Q o i) (px-pp x (at a x) u (at a u) ux) (px-nn w (seen o (yAt p i)) u (at a u) (k .0))
-            (px-nn x (at a x) w (seen o (yAt p i)) (k .1)) z,
+            between (pt (valueAt a) u) (pt (valueAt a) x) (Q o i) (px-pp x (valueAt a x) u (valueAt a u) ux) (px-nn w (seen o (yAt p i)) u (valueAt a u) (k .0))
+            (px-nn x (valueAt a x) w (seen o (yAt p i)) (k .1)) z,
       )
 
   -- ---- the edge between the last vertex above and the first below: straight down

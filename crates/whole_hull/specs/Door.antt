@@ -12,12 +12,12 @@ use Rattle.whole_hull.specs.declared.Answer.{Answer}
 use Rattle.whole_hull.specs.declared.Answer.the-variants.{Vertices, Refused}
 
 -- How many vertices there are, or the number of a refusal.
-unfoldable pub answered : ℕ → ℕ → Answer
-answered zero vertices = Vertices vertices
-answered (suc n) vertices = Refused (suc n)
+unfoldable pub hullBy : ℕ → ℕ → Answer
+hullBy zero vertices = Vertices vertices
+hullBy (suc n) vertices = Refused (suc n)
 
 abbrev pub hullAnswer : List ℕ → ℕ → Answer
-hullAnswer p room = answered (checkHull p room) (length (hullWhole (pairsOf p)))
+hullAnswer p room = hullBy (checkHull p room) (length (hullWhole (pairsOf p)))
 
 -- The lent list after the call: the vertices in its first places and the rest untouched, or as it was.
 abbrev pub hullAfter : Answer → List ℕ → List ℕ → List ℕ

@@ -1,3 +1,2 @@
 pub mod Door
-pub mod Chain
-pub mod Steps
+pub mod Inner

@@ -5,23 +5,14 @@ ghost use mathlib.Core.Path.{_≡_};
 ghost use mathlib.Core.Bool.{true, false};
 ghost use Prim.Native.Nat.{_+_, _<_, _≤_};
 ghost use lib.ListN.{length};
-ghost use Rattle.whole_hull.specs.Chain.{
-  Full,
-  at,
-  sumL,
-  sumR,
-  Chain,
-  Ready,
-  Steep,
-  stackOf,
-  Inside,
-};
+ghost use Rattle.laws.specs.Plane.{valueAt};
+ghost use Rattle.whole_hull.specs.Inner.{Full, sumL, sumR, Chain, ChainReady, Steep, stackOf, PlacesWithin};
 
 // The least y at place x.
 fn y_of(a: &[u16], x: u32) -> u32
     requires { ⌜ length (now a) ≡ 8193 ⌝ }
-    requires { ⌜ Full (at (now a)) x ⌝ }
-    ensures { λ r. ⌜ (r ≡ at (now (a .entry)) x) × (r ≤ 8192) × (x ≤ 8192) ⌝ }
+    requires { ⌜ Full (valueAt (now a)) x ⌝ }
+    ensures { λ r. ⌜ (r ≡ valueAt (now (a .entry)) x) × (r ≤ 8192) × (x ≤ 8192) ⌝ }
 {
     let i = x as usize;
     a[i] as u32
@@ -31,13 +22,13 @@ fn y_of(a: &[u16], x: u32) -> u32
 // right of it, or on it.
 fn behind(a: &[u16], u: u32, c: u32, w: u32) -> bool
     requires { ⌜ length (now a) ≡ 8193 ⌝ }
-    requires { ⌜ Full (at (now a)) u ⌝ }
-    requires { ⌜ Full (at (now a)) c ⌝ }
-    requires { ⌜ Full (at (now a)) w ⌝ }
+    requires { ⌜ Full (valueAt (now a)) u ⌝ }
+    requires { ⌜ Full (valueAt (now a)) c ⌝ }
+    requires { ⌜ Full (valueAt (now a)) w ⌝ }
     requires { ⌜ (u < c) × (c < w) ⌝ }
     ensures { λ r. ⌜
-        (r ≡ true → sumL (at (now (a .entry))) u c w ≤ sumR (at (now (a .entry))) u c w)
-        × (r ≡ false → sumR (at (now (a .entry))) u c w < sumL (at (now (a .entry))) u c w) ⌝ }
+        (r ≡ true → sumL (valueAt (now (a .entry))) u c w ≤ sumR (valueAt (now (a .entry))) u c w)
+        × (r ≡ false → sumR (valueAt (now (a .entry))) u c w < sumL (valueAt (now (a .entry))) u c w) ⌝ }
 {
     let yu = y_of(a, u);
     let yc = y_of(a, c);
@@ -54,12 +45,12 @@ fn behind(a: &[u16], u: u32, c: u32, w: u32) -> bool
 fn kept(a: &[u16], s: &[u16], n: usize, e: u32) -> usize
     requires { ⌜ length (now a) ≡ 8193 ⌝ }
     requires { ⌜ n ≤ length (now s) ⌝ }
-    requires { ⌜ Full (at (now a)) e ⌝ }
-    requires { ⌜ Ready (at (now a)) e (stackOf (now s) n) ⌝ }
+    requires { ⌜ Full (valueAt (now a)) e ⌝ }
+    requires { ⌜ ChainReady (valueAt (now a)) e (stackOf (now s) n) ⌝ }
     ensures { λ r. ⌜
         (r ≤ n)
-        × Ready (at (now (a .entry))) e (stackOf (now (s .entry)) r)
-        × Steep (at (now (a .entry))) e (stackOf (now (s .entry)) r) ⌝ }
+        × ChainReady (valueAt (now (a .entry))) e (stackOf (now (s .entry)) r)
+        × Steep (valueAt (now (a .entry))) e (stackOf (now (s .entry)) r) ⌝ }
 {
     let mut m = n;
     while 1 < m {
@@ -76,9 +67,9 @@ fn kept(a: &[u16], s: &[u16], n: usize, e: u32) -> usize
 fn placed(a: &[u16], s: &mut [u16], n: usize, e: u32) -> usize
     requires { ⌜ length (now a) ≡ 8193 ⌝ }
     requires { ⌜ (length (now s) ≡ 8193) × (n ≤ e) × (e < 8193) ⌝ }
-    requires { ⌜ Chain (at (now a)) e (stackOf (now s) n) ⌝ }
+    requires { ⌜ Chain (valueAt (now a)) e (stackOf (now s) n) ⌝ }
     ensures { λ r. ⌜
-        Chain (at (now (a .entry))) (e + 1) (stackOf (now (s .exit)) r) × (r ≤ e + 1) ⌝ }
+        Chain (valueAt (now (a .entry))) (e + 1) (stackOf (now (s .exit)) r) × (r ≤ e + 1) ⌝ }
 {
     let i = e as usize;
     if 8192 < a[i] {
@@ -94,9 +85,9 @@ fn placed(a: &[u16], s: &mut [u16], n: usize, e: u32) -> usize
 pub fn chain(a: &[u16], s: &mut [u16], left: u32, right: u32) -> usize
     requires { ⌜ length (now a) ≡ 8193 ⌝ }
     requires { ⌜ length (now s) ≡ 8193 ⌝ }
-    requires { ⌜ Inside (at (now a)) left right ⌝ }
+    requires { ⌜ PlacesWithin (valueAt (now a)) left right ⌝ }
     ensures { λ r. ⌜
-        Chain (at (now (a .entry))) 8193 (stackOf (now (s .exit)) r) × (r ≤ 8193) ⌝ }
+        Chain (valueAt (now (a .entry))) 8193 (stackOf (now (s .exit)) r) × (r ≤ 8193) ⌝ }
 {
     let mut n = 0usize;
     let mut e = left;

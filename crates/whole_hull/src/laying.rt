@@ -6,10 +6,10 @@ ghost use mathlib.Core.Path.{_≡_};
 ghost use mathlib.Core.List.{[], _∷_};
 ghost use Prim.Native.Nat.{_+_, _*_, _<_, _≤_};
 ghost use lib.ListN.{length, getD};
+ghost use Rattle.laws.specs.Plane.{valueAt};
 ghost use Rattle.laws.specs.Lent.{Stored};
 ghost use Rattle.hull.specs.Points.{numbersOf};
-ghost use Rattle.whole_hull.specs.Chain.{Full, at as At, vertex, upTo, cornerIf};
-ghost use Rattle.whole_hull.specs.Chain.{over, under, halfOf, roundOf, orOne, Places};
+ghost use Rattle.whole_hull.specs.Inner.{Full, vertex, listUpTo, cornerIf, overVertex, underVertex, halfRound, roundOf, orOne, ChainPlaces};
 
 // Stores a point from place at on; returns the place after it.
 fn put_point(out: &mut [u32], at: usize, x: u32, y: u32) -> usize
@@ -24,7 +24,7 @@ fn put_point(out: &mut [u32], at: usize, x: u32, y: u32) -> usize
 // Stores the i-th vertex.
 fn put_vertex(a: &[u16], s: &[u16], i: usize, back: bool, out: &mut [u32], at: usize) -> usize
     requires { ⌜ (length (now a) ≡ 8193) × (i < length (now s)) ⌝ }
-    requires { ⌜ Full (At (now a)) (getD (now s) i 0) ⌝ }
+    requires { ⌜ Full (valueAt (now a)) (getD (now s) i 0) ⌝ }
     requires { ⌜ at + 2 ≤ length (now out) ⌝ }
     ensures { λ r. ⌜
         Stored at (numbersOf (vertex back (now (a .entry)) (now (s .entry)) i ∷ []))
@@ -39,10 +39,10 @@ fn put_vertex(a: &[u16], s: &[u16], i: usize, back: bool, out: &mut [u32], at: u
 
 // Stores the first k vertices from place at on; returns the place after them.
 fn put_run(a: &[u16], s: &[u16], k: usize, back: bool, out: &mut [u32], at: usize) -> usize
-    requires { ⌜ Places (now a) (now s) k ⌝ }
+    requires { ⌜ ChainPlaces (now a) (now s) k ⌝ }
     requires { ⌜ at + 2 * k ≤ length (now out) ⌝ }
     ensures { λ r. ⌜
-        Stored at (numbersOf (upTo (vertex back (now (a .entry)) (now (s .entry))) k))
+        Stored at (numbersOf (listUpTo (vertex back (now (a .entry)) (now (s .entry))) k))
         (now (out .entry)) (now (out .exit)) r ⌝ }
 {
     let mut i = 0usize;
@@ -64,7 +64,7 @@ fn put_corner(
     out: &mut [u32],
     at: usize,
 ) -> usize
-    requires { ⌜ Places (now a) (now s) k ⌝ }
+    requires { ⌜ ChainPlaces (now a) (now s) k ⌝ }
     requires { ⌜ (straight ≡ true → at + 2 ≤ length (now out)) ⌝ }
     ensures { λ r. ⌜
         Stored at
@@ -87,11 +87,11 @@ fn put_half(
     out: &mut [u32],
     at: usize,
 ) -> usize
-    requires { ⌜ Places (now a) (now s) k ⌝ }
+    requires { ⌜ ChainPlaces (now a) (now s) k ⌝ }
     requires { ⌜
-        at + 2 * length (halfOf back (now a) (now s) k straight) ≤ length (now out) ⌝ }
+        at + 2 * length (halfRound back (now a) (now s) k straight) ≤ length (now out) ⌝ }
     ensures { λ r. ⌜
-        Stored at (numbersOf (halfOf back (now (a .entry)) (now (s .entry)) k straight))
+        Stored at (numbersOf (halfRound back (now (a .entry)) (now (s .entry)) k straight))
         (now (out .entry)) (now (out .exit)) r ⌝ }
 {
     let m = put_run(a, s, k, back, out, at);
@@ -101,7 +101,7 @@ fn put_half(
 // The y of the k-th vertex.
 fn y_of(a: &[u16], s: &[u16], k: usize, back: bool) -> u32
     requires { ⌜ (length (now a) ≡ 8193) × (k < length (now s)) ⌝ }
-    requires { ⌜ Full (At (now a)) (getD (now s) k 0) ⌝ }
+    requires { ⌜ Full (valueAt (now a)) (getD (now s) k 0) ⌝ }
     ensures { λ r. ⌜ r ≡ vertex back (now (a .entry)) (now (s .entry)) k .1 ⌝ }
 {
     let u = s[k];
@@ -112,12 +112,12 @@ fn y_of(a: &[u16], s: &[u16], k: usize, back: bool) -> u32
 // Whether the k-th vertex above lies above the j-th below.
 fn lies_above(a: &[u16], s: &[u16], k: usize, b: &[u16], t: &[u16], j: usize) -> bool
     requires { ⌜ (length (now a) ≡ 8193) × (k < length (now s)) ⌝ }
-    requires { ⌜ Full (At (now a)) (getD (now s) k 0) ⌝ }
+    requires { ⌜ Full (valueAt (now a)) (getD (now s) k 0) ⌝ }
     requires { ⌜ (length (now b) ≡ 8193) × (j < length (now t)) ⌝ }
-    requires { ⌜ Full (At (now b)) (getD (now t) j 0) ⌝ }
+    requires { ⌜ Full (valueAt (now b)) (getD (now t) j 0) ⌝ }
     ensures { λ r. ⌜
-        r ≡ ltb (over (now (a .entry)) (now (s .entry)) k .1)
-        (under (now (b .entry)) (now (t .entry)) j .1) ⌝ }
+        r ≡ ltb (overVertex (now (a .entry)) (now (s .entry)) k .1)
+        (underVertex (now (b .entry)) (now (t .entry)) j .1) ⌝ }
 {
     let y = y_of(a, s, k, false);
     let z = y_of(b, t, j, true);
@@ -129,14 +129,14 @@ fn lies_above(a: &[u16], s: &[u16], k: usize, b: &[u16], t: &[u16], j: usize) ->
 
 // Stores the way round; returns the place after it.
 pub fn lay(a: &[u16], s: &[u16], k: usize, b: &[u16], t: &[u16], j: usize, out: &mut [u32]) -> usize
-    requires { ⌜ Places (now a) (now s) k ⌝ }
-    requires { ⌜ Places (now b) (now t) j ⌝ }
+    requires { ⌜ ChainPlaces (now a) (now s) k ⌝ }
+    requires { ⌜ ChainPlaces (now b) (now t) j ⌝ }
     requires { ⌜
-        2 * length (orOne (over (now a) (now s) 0) (roundOf (now a) (now s) k (now b) (now t) j))
+        2 * length (orOne (overVertex (now a) (now s) 0) (roundOf (now a) (now s) k (now b) (now t) j))
         ≤ length (now out) ⌝ }
     ensures { λ r. ⌜
         Stored 0
-        (numbersOf (orOne (over (now (a .entry)) (now (s .entry)) 0)
+        (numbersOf (orOne (overVertex (now (a .entry)) (now (s .entry)) 0)
         (roundOf (now (a .entry)) (now (s .entry)) k (now (b .entry)) (now (t .entry)) j)))
         (now (out .entry)) (now (out .exit)) r ⌝ }
 {

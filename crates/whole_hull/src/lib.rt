@@ -29,8 +29,8 @@ pub enum Answer {
 // Stores the vertices of the hull of the points p in out, clockwise with x to the right and y down,
 // from the least x, then the least y. The places past them stay as they are.
 pub fn convex_hull(p: &[u32], out: &mut [u32]) -> Answer
-    ensures { λ r. ⌜ r ≡ hullAnswer (now (p .entry)) (length (now (out .entry))) ⌝ }
-    ensures { λ r. ⌜ now (out .exit) ≡ hullAfter r (now (p .entry)) (now (out .entry)) ⌝ }
+    ensures answer { λ r. ⌜ r ≡ hullAnswer (now (p .entry)) (length (now (out .entry))) ⌝ }
+    ensures out { λ r. ⌜ now (out .exit) ≡ hullAfter r (now (p .entry)) (now (out .entry)) ⌝ }
 {
     let no = check_hull(p, out.len());
     if no == 0 {
@@ -46,8 +46,8 @@ fn vertices(p: &[u32], out: &mut [u32]) -> usize
     requires { ⌜ length (now p) ≡ 2 * many (now p) ⌝ }
     requires { ⌜ length (now p) ≤ length (now out) ⌝ }
     requires { ⌜ Bounded (now p) ⌝ }
-    ensures { λ r. ⌜ r ≡ length (hullWhole (pairsOf (now (p .entry)))) ⌝ }
-    ensures { λ _. ⌜
+    ensures answer { λ r. ⌜ r ≡ length (hullWhole (pairsOf (now (p .entry)))) ⌝ }
+    ensures out { λ _. ⌜
         now (out .exit)
         ≡ laid (numbersOf (hullWhole (pairsOf (now (p .entry))))) (now (out .entry)) ⌝ }
 {

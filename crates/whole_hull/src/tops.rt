@@ -7,8 +7,7 @@ ghost use Prim.Native.Nat.{_<_, _≤_};
 ghost use lib.ListN.{length};
 ghost use Rattle.hull.specs.Points.{many};
 ghost use Rattle.doubled.specs.Points.{Bounded};
-ghost use Rattle.whole_hull.specs.Chain.{seen as Seen, Tops, Spans};
-ghost use Rattle.whole_hull.specs.Steps.{lowered};
+ghost use Rattle.whole_hull.specs.Inner.{seen as Seen, Tops, Spans, lowered};
 
 // The least and the greatest of some x.
 pub struct Span {
@@ -19,8 +18,8 @@ pub struct Span {
 // The span with x in it.
 fn widened(s: Span, x: u32) -> Span
     requires { ⌜ (s .left ≤ s .right) × (s .right ≤ 8192) × (x ≤ 8192) ⌝ }
-    ensures { λ r. ⌜ (r .left ≤ s .left) × (s .right ≤ r .right) ⌝ }
-    ensures { λ r. ⌜ (r .left ≤ x) × (x ≤ r .right) × (r .right ≤ 8192) ⌝ }
+    ensures bounds { λ r. ⌜ (r .left ≤ s .left) × (s .right ≤ r .right) ⌝ }
+    ensures facts { λ r. ⌜ (r .left ≤ x) × (x ≤ r .right) × (r .right ≤ 8192) ⌝ }
 {
     let left = s.left;
     let right = s.right;
@@ -61,8 +60,8 @@ fn lower_both(a: &mut [u16], b: &mut [u16], x: u32, y: u32)
     requires { ⌜ length (now a) ≡ 8193 ⌝ }
     requires { ⌜ length (now b) ≡ 8193 ⌝ }
     requires { ⌜ (x ≤ 8192) × (y ≤ 8192) ⌝ }
-    ensures { λ _. ⌜ now (a .exit) ≡ lowered (now (a .entry)) x y ⌝ }
-    ensures { λ _. ⌜ now (b .exit) ≡ lowered (now (b .entry)) (Seen true x) (Seen true y) ⌝ }
+    ensures a { λ _. ⌜ now (a .exit) ≡ lowered (now (a .entry)) x y ⌝ }
+    ensures b { λ _. ⌜ now (b .exit) ≡ lowered (now (b .entry)) (Seen true x) (Seen true y) ⌝ }
 {
     lower(a, x, y);
     lower(b, seen(x, true), seen(y, true));
@@ -75,9 +74,9 @@ pub fn tops(p: &[u32], a: &mut [u16], b: &mut [u16]) -> Span
     requires { ⌜ Bounded (now p) ⌝ }
     requires { ⌜ Tops false (now p) 0 (now a) ⌝ }
     requires { ⌜ Tops true (now p) 0 (now b) ⌝ }
-    ensures { λ _. ⌜ Tops false (now (p .entry)) (many (now (p .entry))) (now (a .exit)) ⌝ }
-    ensures { λ _. ⌜ Tops true (now (p .entry)) (many (now (p .entry))) (now (b .exit)) ⌝ }
-    ensures { λ r. ⌜ Spans (now (p .entry)) (many (now (p .entry))) (r .left) (r .right) ⌝ }
+    ensures a { λ _. ⌜ Tops false (now (p .entry)) (many (now (p .entry))) (now (a .exit)) ⌝ }
+    ensures b { λ _. ⌜ Tops true (now (p .entry)) (many (now (p .entry))) (now (b .exit)) ⌝ }
+    ensures left { λ r. ⌜ Spans (now (p .entry)) (many (now (p .entry))) (r .left) (r .right) ⌝ }
 {
     let n = p.len() / 2;
     let first = x_at(p, 0);

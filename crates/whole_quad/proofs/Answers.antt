@@ -2,10 +2,10 @@
 use mathlib.Core.Path.{_≡_, refl, sym, ap}
 use mathlib.Core.List.{List}
 use Prim.Native.Nat.{ℕ, zero, suc}
-use Rattle.whole_quad.specs.Door.{quadBy, cornersOf}
+use Rattle.whole_quad.specs.Door.{quadBy, quadOfPairs}
 use Rattle.whole_quad.specs.declared.corners.Corners.the-variants.{Refused}
 
-pub quad-told : (n : ℕ) (l : List (ℕ × ℕ)) → n ≡ 0 → cornersOf l ≡ quadBy n l
+pub quad-told : (n : ℕ) (l : List (ℕ × ℕ)) → n ≡ 0 → quadOfPairs l ≡ quadBy n l
 unfolding quadBy
 quad-told n l e = sym (ap (λ (m : ℕ). quadBy m l) e)
 

@@ -19,7 +19,7 @@ use Rattle.whole.specs.Numbers.{_⊕_, _⊗_, neg}
 use Rattle.whole.specs.Hull.{isNeg}
 use Rattle.whole.proofs.Ring.{𝕧, _:-_, _:*_, solve}
 use Rattle.hull.proofs.Exact.{less-is}
-use Rattle.whole_quad.specs.Steps.{gap}
+use Rattle.laws.specs.Gap.{gap}
 
 pub less-nat : (a b : ℕ) → isNeg (pos a ⊕ neg (pos b)) ≡ ltb a b
 less-nat a b = sym (less-is (pos a) (pos b))
@@ -44,7 +44,6 @@ unfolding _⊗_
 times a b = refl
 
 pub gap-square : (a b : ℕ) → (pos a ⊕ neg (pos b)) ⊗ (pos a ⊕ neg (pos b)) ≡ pos (gap a b * gap a b)
-unfolding gap
 gap-square a b = go (ltb a b) refl
   where
     go : (t : Bool) → ltb a b ≡ t → (pos a ⊕ neg (pos b)) ⊗ (pos a ⊕ neg (pos b)) ≡ pos ((a - b + (b - a)) * (a - b + (b - a)))
@@ -87,7 +86,7 @@ module _ (a b : ℕ) (la : a ≤ 8192) (lb : b ≤ 8192) where
 
   gap-small : gap a b * gap a b ≤ 67108864
   gap-small =
-      let g : gap a b ≤ 8192 = unfold gap in omega arith in
+      let g : gap a b ≤ 8192 = omega arith in
       mul-le-mul {n₁ = gap a b} {m₁ = gap a b} {n₂ = 8192} {m₂ = 8192} g g
 
   pub square-fits : SFits w32 squared

@@ -15,7 +15,7 @@ use Rattle.whole.specs.Numbers.{_⊕_, neg, 𝟘, 𝟙}
 use Rattle.whole.specs.Points.{Pt, cross, d2, ptAt}
 use Rattle.whole.specs.Hull.{isNeg, range}
 use Rattle.whole.specs.Quad.{lace, area}
-use Rattle.whole.specs.Wrap.{keep, ipairs, fars, ends, iquad, wholeOps, lessZ}
+use Rattle.whole.specs.Walk.{keep, indexPairs, farthestWith, ends, quadWith, wholeOps, lessZ}
 use Rattle.whole.proofs.Sums.{𝟘-⊕}
 use Rattle.whole.proofs.Ring.{Expr, 𝕧, _:+_, _:-_, _:*_, :n, solve}
 use Rattle.whole.proofs.Turns.{X, Y, C, env, rot2}
@@ -24,7 +24,7 @@ use Rattle.hull.specs.Points.{many, ptsOf}
 use Rattle.doubled.specs.Points.{pairsOf, xAt, yAt, Bounded}
 use Rattle.doubled.specs.Outline.{quadWhole}
 use Rattle.doubled.proofs.Points.{length-pairs, pair-any}
-use Rattle.whole_quad.specs.Steps.{turnL, turnR, sideAt, d2At, apart, mostOf}
+use Rattle.whole_quad.specs.Inner.{turnL, turnR, sideAt, d2At, apart, mostOf}
 use Rattle.whole_quad.proofs.Numbers.{less-nat, sub-pos}
 use Rattle.whole_quad.proofs.Turns.{side-any, dist-any}
 use Rattle.whole_quad.proofs.Pairs.{keep-value}
@@ -107,12 +107,12 @@ module _ (p : List ℕ) (even : length p ≡ 2 * many p) (bounded : Bounded p) w
   unfolding 𝟙
   less-far d = let z : d ≡ d + 1 - 1 = omega arith in ap pos z ∙ sym (sub-pos (d + 1) 1 (omega arith))
 
-  pair-is : keep ltb (apart p) (0, 0) 0 (ipairs 0 n) .0 ≡ fars (wholeOps P) n
-  unfolding fars wholeOps
+  pair-is : keep ltb (apart p) (0, 0) 0 (indexPairs 0 n) .0 ≡ farthestWith (wholeOps P) n
+  unfolding farthestWith wholeOps
   pair-is =
       sym (keep-cong (λ (z : ℤ) (u : ℕ). z ≡ pos u ⊕ neg 𝟙) lessZ ltb (λ q. d2 (ptAt P (q .0)) (ptAt P (q .1))) (apart p)
       (λ u s u′ s′ h k. less-from 𝟙 u s u′ s′ h k) (0, 0) (neg 𝟙) 0
-      (ipairs 0 n) (sym (unfold 𝟘 in 𝟘-⊕ (neg 𝟙)))
+      (indexPairs 0 n) (sym (unfold 𝟘 in 𝟘-⊕ (neg 𝟙)))
       (λ q m. unfold apart in dist-any p even (q .0) (q .1) ∙ less-far (d2At p (q .0) (q .1))) .0)
 
   -- ---- the quad
@@ -123,21 +123,21 @@ module _ (p : List ℕ) (even : length p ≡ 2 * many p) (bounded : Bounded p) w
   map-points [] = refl
   map-points (i ∷ is) = ap₂ (λ (q : ℕ × ℕ) (l : List (ℕ × ℕ)). q ∷ l) (pair-any p even i) (map-points is)
 
-  quad-by : (is : List ℕ) → iquad (wholeOps P) n ≡ is → quadWhole (pairsOf p) ≡ map point is
+  quad-by : (is : List ℕ) → quadWith (wholeOps P) n ≡ is → quadWhole (pairsOf p) ≡ map point is
   unfolding quadWhole
   quad-by is e =
-      ap (λ (k : ℕ). map (λ i. getD (pairsOf p) i (0, 0)) (iquad (wholeOps P) k)) (length-pairs p)
+      ap (λ (k : ℕ). map (λ i. getD (pairsOf p) i (0, 0)) (quadWith (wholeOps P) k)) (length-pairs p)
       ∙ ap (map (λ i. getD (pairsOf p) i (0, 0))) e
       ∙ map-points is
 
   pub quad-few : n < 4 → quadWhole (pairsOf p) ≡ []
   quad-few h =
-      quad-by [] (unfold iquad in
+      quad-by [] (unfold quadWith in
       ap (λ (b : Bool). elim b as (λ _. List ℕ)
-      [ true ↦ [] | false ↦ ends (wholeOps P) n (fars (wholeOps P) n .0) (fars (wholeOps P) n .1) ])
+      [ true ↦ [] | false ↦ ends (wholeOps P) n (farthestWith (wholeOps P) n .0) (farthestWith (wholeOps P) n .1) ])
       (lt-ltb n 4 h))
 
-  module _ (some : 4 ≤ n) (a b far : ℕ) (e : ((a, b), far) ≡ keep ltb (apart p) (0, 0) 0 (ipairs 0 n)) (c u : ℕ)
+  module _ (some : 4 ≤ n) (a b far : ℕ) (e : ((a, b), far) ≡ keep ltb (apart p) (0, 0) 0 (indexPairs 0 n)) (c u : ℕ)
       (ec : (c, u) ≡ mostOf p a b a) (d w : ℕ) (ed : (d, w) ≡ mostOf p b a a) where
     -- the answer from its three tests
     abbrev shape : Bool → Bool → Bool → ℕ → ℕ → List ℕ
@@ -177,9 +177,9 @@ module _ (p : List ℕ) (even : length p ≡ 2 * many p) (bounded : Bounded p) w
     quad-is : (x y z : Bool) → ltb 268435456 u ≡ x → ltb 268435456 w ≡ y → isNeg (area (ptAt P a) (ptAt P c) (ptAt P b) (ptAt P d)) ≡ z
         → quadWhole (pairsOf p) ≡ map point (shape x y z c d)
     quad-is x y z ex ey ez =
-        quad-by (shape x y z c d) (unfold iquad in
+        quad-by (shape x y z c d) (unfold quadWith in
         ap (λ (t : Bool). elim t as (λ _. List ℕ)
-        [ true ↦ [] | false ↦ ends (wholeOps P) n (fars (wholeOps P) n .0) (fars (wholeOps P) n .1) ]) (le-ltb n 4 some)
+        [ true ↦ [] | false ↦ ends (wholeOps P) n (farthestWith (wholeOps P) n .0) (farthestWith (wholeOps P) n .1) ]) (le-ltb n 4 some)
         ∙ ap (λ (q : ℕ × ℕ). ends (wholeOps P) n (q .0) (q .1)) (sym (ap (λ (q : (ℕ × ℕ) × ℕ). q .0) e ∙ pair-is))
         ∙ ends-are x y z ex ey ez)
 

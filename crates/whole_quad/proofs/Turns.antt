@@ -1,5 +1,8 @@
 -- Turns and distances of points of a list, in natural numbers: side-is the side as it is worked out; cross-any, side-any, dist-any what
--- they are in whole numbers; side-back the side of the way back. Assumes nothing.
+-- they are in whole numbers; side-back the side of the way back.
+--     the side of a point, as it is worked out from coordinates and products of them: side-is
+--     turns and distances: side-back, side-any, dist-any, apart-some
+-- Assumes nothing.
 use mathlib.Core.Path.{_≡_, refl, sym, ap, ap₂, _∙_}
 use mathlib.Core.Bool.{Bool, true, false}
 use mathlib.Core.List.{List, [], _∷_}
@@ -18,7 +21,8 @@ use Rattle.hull.specs.Points.{many, ptOf, ptsOf}
 use Rattle.hull.proofs.Exact.{pt-at}
 use Rattle.doubled.specs.Points.{pairsOf, xAt, yAt, Bounded}
 use Rattle.doubled.proofs.Points.{pair-any}
-use Rattle.whole_quad.specs.Steps.{turnL, turnR, sideAt, gap, d2At, apart}
+use Rattle.whole_quad.specs.Inner.{turnL, turnR, sideAt, d2At, apart}
+use Rattle.laws.specs.Gap.{gap}
 use Rattle.whole_quad.proofs.Numbers.{sub-pos, gap-square}
 
 -- ---- the side of a point, as it is worked out from coordinates and products of them

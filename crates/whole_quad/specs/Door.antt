@@ -12,22 +12,22 @@ use Rattle.whole_quad.specs.declared.corners.Point.{Point}
 use Rattle.whole_quad.specs.declared.corners.Quad.{Quad}
 
 -- A point by its coordinates.
-abbrev pub pointOf : ℕ × ℕ → Point
-pointOf q = record { x = q .0; y = q .1 }
+abbrev pub pairPoint : ℕ × ℕ → Point
+pairPoint q = record { x = q .0; y = q .1 }
 
 -- The quad with these corners; none where there is no corner.
-unfoldable pub cornersOf : List (ℕ × ℕ) → Corners
-cornersOf [] = NoQuad
-cornersOf (a ∷ l) = Found (record {
-  a = pointOf a;
-  b = pointOf (getD l 0 (0, 0));
-  c = pointOf (getD l 1 (0, 0));
-  d = pointOf (getD l 2 (0, 0));
+unfoldable pub quadOfPairs : List (ℕ × ℕ) → Corners
+quadOfPairs [] = NoQuad
+quadOfPairs (a ∷ l) = Found (record {
+  a = pairPoint a;
+  b = pairPoint (getD l 0 (0, 0));
+  c = pairPoint (getD l 1 (0, 0));
+  d = pairPoint (getD l 2 (0, 0));
 })
 
 -- A quad, none, or the number of a refusal.
 unfoldable pub quadBy : ℕ → List (ℕ × ℕ) → Corners
-quadBy zero corners = cornersOf corners
+quadBy zero corners = quadOfPairs corners
 quadBy (suc n) corners = Refused (suc n)
 
 abbrev pub quadAnswer : List ℕ → Corners

@@ -1,2 +1,2 @@
 pub mod Door
-pub mod Steps
+pub mod Inner

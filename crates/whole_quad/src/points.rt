@@ -7,7 +7,8 @@ ghost use mathlib.Core.Path.{_≡_};
 ghost use Prim.Native.Nat.{_*_, _<_, _≤_};
 ghost use Rattle.hull.specs.Points.{many};
 ghost use Rattle.doubled.specs.Points.{Bounded};
-ghost use Rattle.whole_quad.specs.Steps.{sideAt, gap, d2At};
+ghost use Rattle.whole_quad.specs.Inner.{sideAt, d2At};
+ghost use Rattle.laws.specs.Gap.{gap};
 
 // How far point i lies on the right of the way from a to b, counted from 268,435,456 on the way
 // itself. What is not of point i is worked out once for a way.

@@ -13,32 +13,32 @@ ghost use Prim.Native.Nat.{_+_, _-_, _*_, _<_, _≤_};
 ghost use lib.Dec.{ltb};
 ghost use lib.ListN.{length};
 ghost use Rattle.whole.specs.Hull.{range};
-ghost use Rattle.whole.specs.Wrap.{keep, ipairs};
+ghost use Rattle.whole.specs.Walk.{keep, indexPairs};
 ghost use Rattle.hull.specs.Points.{many};
 ghost use Rattle.doubled.specs.Points.{xAt, yAt, Bounded, pairsOf};
 ghost use Rattle.doubled.specs.Outline.{quadWhole};
-ghost use Rattle.whole_quad.specs.Door.{cornersOf, pointOf};
-ghost use Rattle.whole_quad.specs.Steps.{apart, kept1, farFrom, reachOf, mostOf};
+ghost use Rattle.whole_quad.specs.Door.{quadOfPairs, pairPoint};
+ghost use Rattle.whole_quad.specs.Inner.{apart, kept1, farFrom, reachOf, mostOf};
 
 // A point with a value of it.
-struct Kept {
+struct Outermost {
     at: usize,
     val: u32,
 }
 
 // k, or point i where its value s is greater.
-fn greater(k: Kept, i: usize, s: u32) -> Kept
+fn greater(k: Outermost, i: usize, s: u32) -> Outermost
     ensures { λ r. ⌜ (r .at, r .val) ≡ kept1 (λ _. s) (k .at) (k .val) i ⌝ }
 {
     let val = k.val;
     if val < s {
-        return Kept { at: i, val: s };
+        return Outermost { at: i, val: s };
     }
     k
 }
 
 // k, or point i where its side s is less: where its side of the way back is greater.
-fn less(k: Kept, i: usize, s: u32) -> Kept
+fn less(k: Outermost, i: usize, s: u32) -> Outermost
     requires { ⌜ (k .val ≤ 536870912) × (s ≤ 536870912) ⌝ }
     ensures { λ r. ⌜
         ((r .at, 536870912 - r .val)
@@ -47,34 +47,34 @@ fn less(k: Kept, i: usize, s: u32) -> Kept
 {
     let val = k.val;
     if s < val {
-        return Kept { at: i, val: s };
+        return Outermost { at: i, val: s };
     }
     k
 }
 
 // The points farthest out on the right and on the left of a way, with their sides.
 struct Sides {
-    right: Kept,
-    left: Kept,
+    right: Outermost,
+    left: Outermost,
 }
 
 // The points farthest out on either side of the way from a to b; a where there is none.
 fn most(p: &[u32], a: usize, b: usize) -> Sides
     requires { ⌜ (a < many (now p)) × (b < many (now p)) ⌝ }
     requires { ⌜ Bounded (now p) ⌝ }
-    ensures { λ r. ⌜
+    ensures right { λ r. ⌜
         ((r .right .at, r .right .val) ≡ mostOf (now (p .entry)) a b a)
         × (r .right .at < many (now (p .entry))) ⌝ }
-    ensures { λ r. ⌜
+    ensures left { λ r. ⌜
         ((r .left .at, 536870912 - r .left .val) ≡ mostOf (now (p .entry)) b a a)
         × (r .left .at < many (now (p .entry))) ⌝ }
 {
     let n = p.len() / 2;
-    let mut right = Kept {
+    let mut right = Outermost {
         at: a,
         val: 268435456,
     };
-    let mut left = Kept {
+    let mut left = Outermost {
         at: a,
         val: 268435456,
     };
@@ -118,7 +118,7 @@ fn reach(p: &[u32], i: usize) -> u32
 }
 
 // The first point that has a later one farther away than any other has, and its reach.
-fn widest(p: &[u32]) -> Kept
+fn widest(p: &[u32]) -> Outermost
     requires { ⌜ 1 < many (now p) ⌝ }
     requires { ⌜ Bounded (now p) ⌝ }
     ensures { λ r. ⌜
@@ -127,7 +127,7 @@ fn widest(p: &[u32]) -> Kept
         × (r .at + 1 < many (now (p .entry))) ⌝ }
 {
     let last = p.len() / 2 - 1;
-    let mut k = Kept { at: 0, val: 0 };
+    let mut k = Outermost { at: 0, val: 0 };
     let mut i = 0;
     while i < last {
         k = greater(k, i, reach(p, i));
@@ -163,7 +163,7 @@ fn farthest(p: &[u32]) -> Pair
     requires { ⌜ Bounded (now p) ⌝ }
     ensures { λ r. ⌜
         (((r .a, r .b), r .far)
-        ≡ keep ltb (apart (now (p .entry))) (0, 0) 0 (ipairs 0 (many (now (p .entry)))))
+        ≡ keep ltb (apart (now (p .entry))) (0, 0) 0 (indexPairs 0 (many (now (p .entry)))))
         × (r .a < many (now (p .entry)))
         × (r .b < many (now (p .entry))) ⌝ }
 {
@@ -182,7 +182,7 @@ fn farthest(p: &[u32]) -> Pair
 fn point_at(p: &[u32], i: usize) -> Point
     requires { ⌜ i < many (now p) ⌝ }
     requires { ⌜ Bounded (now p) ⌝ }
-    ensures { λ r. ⌜ r ≡ pointOf (xAt (now (p .entry)) i, yAt (now (p .entry)) i) ⌝ }
+    ensures { λ r. ⌜ r ≡ pairPoint (xAt (now (p .entry)) i, yAt (now (p .entry)) i) ⌝ }
 {
     Point {
         x: x_at(p, i),
@@ -199,7 +199,7 @@ fn corners_at(p: &[u32], a: usize, b: usize, c: usize, d: usize) -> Corners
         × (d < many (now p)) ⌝ }
     requires { ⌜ Bounded (now p) ⌝ }
     ensures { λ r. ⌜
-        r ≡ cornersOf
+        r ≡ quadOfPairs
         ((xAt (now (p .entry)) a, yAt (now (p .entry)) a)
         ∷ (xAt (now (p .entry)) b, yAt (now (p .entry)) b)
         ∷ (xAt (now (p .entry)) c, yAt (now (p .entry)) c)
@@ -224,7 +224,7 @@ fn corners_at(p: &[u32], a: usize, b: usize, c: usize, d: usize) -> Corners
 pub fn quad_of(p: &[u32]) -> Corners
     requires { ⌜ length (now p) ≡ 2 * many (now p) ⌝ }
     requires { ⌜ Bounded (now p) ⌝ }
-    ensures { λ r. ⌜ r ≡ cornersOf (quadWhole (pairsOf (now (p .entry)))) ⌝ }
+    ensures { λ r. ⌜ r ≡ quadOfPairs (quadWhole (pairsOf (now (p .entry)))) ⌝ }
 {
     if p.len() / 2 < 4 {
         return Corners::NoQuad;

@@ -1,5 +1,4 @@
 -- `accept::at_least` meets its contract. Assumes nothing.
-use borrow.Author.Needs.{needs}
 use Rattle.accept.proofs.at_least.Statement.{statement}
 use Rattle.accept.proofs.at_least.Tie as tie
 

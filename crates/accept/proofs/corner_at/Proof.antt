@@ -1,7 +1,6 @@
 -- `accept::corner_at` meets its contract, corner by corner. Assumes nothing.
 use Rattle.accept.specs.Accept.{cornerAt}
 use borrow.Author.Tests.{eq-eqb, ne-eqb}
-use borrow.Author.Needs.{needs}
 use Rattle.accept.proofs.corner_at.Statement.{statement}
 use Rattle.accept.proofs.corner_at.Tie as tie
 

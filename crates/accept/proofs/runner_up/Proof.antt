@@ -2,8 +2,8 @@
 -- is how many are left. Assumes nothing.
 use mathlib.Core.Path.{_≡_}
 use Prim.Native.Nat.{_-_}
+use Rattle.ieee.specs.Constants.{0f}
 use Rattle.accept.specs.Accept.{runnerOn}
-use Rattle.hull.specs.Points.{0f}
 use Rattle.accept.proofs.BestScores.{runner-begin, runner-step, runner-end}
 use borrow.Author.Needs.{needs}
 use Rattle.accept.proofs.runner_up.Statement.{statement}

@@ -1,5 +1,5 @@
 -- `attempt::room`: 1,179,680 zeros are as many. Assumes nothing.
-use Rattle.packed.proofs.Places.{same-places}
+use Rattle.word_bytes.proofs.Places.{same-places}
 use Rattle.attempt.proofs.room.Statement.{statement}
 use Rattle.attempt.proofs.room.Tie as tie
 

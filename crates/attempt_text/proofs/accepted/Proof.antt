@@ -2,7 +2,7 @@
 -- points. Assumes nothing.
 use Rattle.attempt_text.proofs.Wholes.{pixels-part, points-part, text-accepted}
 use Rattle.attempt_text.proofs.Records.{accepted}
-use Rattle.packed.proofs.Places.{front, refilled}
+use Rattle.word_bytes.proofs.Places.{front, refilled}
 use Rattle.laws.proofs.Stores.{stored-ext}
 use lib.ListN.{length, length-take}
 use Prim.Native.Nat.{_≤_}
@@ -33,8 +33,8 @@ slice-aggregate-read c = front _ _ (omega (arith, c .before .list-room .ensures,
 
 read-requires : tie.Need-read-requires
 read-requires c κs =
-    let p = accepted (now (c .before .before .before .before .before .before .args .input)) (c .before .before .before .before .before
-    .before .pre .0) in (
+    let q = c .before .before .before .before .before .before in
+    let p = accepted (now (q .args .input)) (q .pre .0) in (
       omega (arith, p .few, c .before .before .before .pixel-count .ensures .0),
       simp length-take (omega (
         arith,
@@ -51,8 +51,8 @@ part-answered-start c = search needs
 
 part-answered-end : tie.Need-part-answered-end
 part-answered-end c =
-    let p = accepted (now (c .before .before .before .before .before .before .before .before .args .input)) (c .before .before .before
-    .before .before .before .before .before .pre .0) in
+    let q = c .before .before .before .before .before .before .before .before in
+    let p = accepted (now (q .args .input)) (q .pre .0) in
     omega (arith, p .there, c .before .before .before .before .before .pixel-count .ensures .0)
 
 array-share-prefix-points : tie.Need-array-share-prefix-points
@@ -79,12 +79,13 @@ same-length c = search needs
 
 returns : tie.Need-returns
 returns c =
-    let a = c .before .before .before .before .before .before .before .before .before .before .before .before .before .before in
+    let q = c .before .before .before .before .before .before .before in
+    let a = q .before .before .before .before .before .before .before in
     let s = now (a .args .input) in
-    let n = c .before .before .before .before .before .before .before .before .before .before .before .pixel-count in
-    let m = c .before .before .before .before .before .before .before .before .before .before .number-count in
-    let b = c .before .before .before .before .before .before .before .before .before .list-room in
-    let r = c .before .before .before .before .before .before .before .read in
+    let n = q .before .before .before .before .pixel-count in
+    let m = q .before .before .before .number-count in
+    let b = q .before .before .list-room in
+    let r = q .read in
     let within : m .result ≤ length (b .result) = omega (arith, b .ensures, m .ensures .1) in
     let held = front (m .result) (b .result) within ∙ sym (r .kept .1 .1 .0) in
     let g = pixels-part s (n .result) (n .ensures .0) in

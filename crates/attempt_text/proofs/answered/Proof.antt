@@ -49,20 +49,14 @@ attempt-requires c κs = search needs
 
 answered-requires : tie.Need-answered-requires
 answered-requires c κs =
-    let a = c .before .before .before .before .before .before .before .before .before .before .before .before .before .before .before
-    .before .before .before .before .before .args in
+    let q = c .before .before .before .before .before .before .before .before in
+    let a = q .before .before .before .before .before .before .before .before .before .before .before .before .args in
     let z = c .before .before .before .before .attempt in (
-      answer-few (now (a .gray)) (c .before .before .before .before .before .before .before .before .before .before .before .many .result)
-          (c .before .before .before .before .before .before .before .before .before .many2 .result) (now (a .points)) (c .before .before
-          .before .before .before .before .before .before .word-at3 .result) (length (c .before .before .before .before .before
-          .before .before
-          .before .before .before .before .before .before .before .before .list-room .result)) (length (c .before .before .before .before
-          .before .before .before .before .before .before .before .before .before .before .list-room2 .result)) (length (c .before .before
-          .before .before .before .before .before .before .before .before .before .before .before .list-room3 .result)) (z .result)
+      answer-few (now (a .gray)) (q .before .before .before .many .result)
+          (q .before .many2 .result) (now (a .points)) (q .word-at3 .result) (length (q .before .before .before .before .before .before .before .list-room .result)) (length (q .before .before .before .before .before .before .list-room2 .result)) (length (q .before .before .before .before .before .list-room3 .result)) (z .result)
           (z .ensures
           .0),
-      c .before .before .before .before .before .before .before .before .before .before .before .before .before .before .before .before
-          .before .before .before .before .pre,
+      q .before .before .before .before .before .before .before .before .before .before .before .before .pre,
     )
 
 same-length : tie.Need-same-length
@@ -70,19 +64,14 @@ same-length c = search needs
 
 returns : tie.Need-returns
 returns c =
-    let a = c .before .before .before .before .before .before .before .before .before .before .before .before .before .before .before
-    .before .before .before .before .before .before .before .before .args in
-    let z = c .before .before .before .before .before .before .before .attempt in
-    let w = c .before .before .before .before .before .before .before .before .before .before .before .before .before .before .many .ensures
-    .0 ∙ c .before .before .before .before .before .before .before .before .before .before .before .before .before .before .before .word-at
+    let q = c .before .before .before .before .before .before .before in
+    let a = q .before .before .before .before .before .before .before .before .before .before .before .before .before .before .before .before .args in
+    let z = q .attempt in
+    let w = q .before .before .before .before .before .before .before .many .ensures
+    .0 ∙ q .before .before .before .before .before .before .before .before .word-at
     .ensures in
-    let h = c .before .before .before .before .before .before .before .before .before .before .before .before .many2 .ensures .0 ∙ c .before
-    .before .before .before .before .before .before .before .before .before .before .before .before .word-at2 .ensures in
-    let e = answer-said (now (a .input)) (now (a .gray)) (now (a .points)) (z .result) _ _ _ _ _ _ w h (c .before .before .before .before
-    .before .before .before .before .before .before .before .word-at3 .ensures) (c .before .before .before .before .before .before .before
-    .before .before .before .before .before .before .before .before .before .before .before .list-room .ensures) (c .before .before .before
-    .before .before .before .before .before .before .before .before .before .before .before .before .before .before .list-room2 .ensures) (c
-    .before .before .before .before .before .before .before .before .before .before .before .before .before .before .before .before
+    let h = q .before .before .before .before .before .many2 .ensures .0 ∙ q .before .before .before .before .before .before .word-at2 .ensures in
+    let e = answer-said (now (a .input)) (now (a .gray)) (now (a .points)) (z .result) _ _ _ _ _ _ w h (q .before .before .before .before .word-at3 .ensures) (q .before .before .before .before .before .before .before .before .before .before .before .list-room .ensures) (q .before .before .before .before .before .before .before .before .before .before .list-room2 .ensures) (q .before .before .before .before .before .before .before .before .before
     .list-room3 .ensures) (z .ensures .0) in
     let t = c .before .before .answered .ensures in
     (stored-ext _ _ (ap (λ (y : Answer). answerText y) e) (t .0), t .1)

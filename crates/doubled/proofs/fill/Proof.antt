@@ -1,14 +1,14 @@
 -- `doubled::fill` meets its contract. The loop's invariant: the first k places are written; the measure is how many are left. Assumes nothing.
 use Rattle.doubled.proofs.Twices.{fill-end}
-use Rattle.doubled.specs.Doubled.{twices, twiceOf}
+use Rattle.doubled.specs.Doubled.{twiceOf}
 use Rattle.laws.proofs.Folds.{written-none, written-step}
 use Rattle.laws.specs.Fold.{written}
 use denote.Ref.{now}
 use lib.Ieee.{nan}
 use lib.ListN.{length, getD, length-set}
 use native.Mathlib.Omega.{arith}
-use Prim.Native.Nat.{ℕ, _-_, _+_, _≤_}
-use mathlib.Core.Path.{_≡_, ap, _∙_}
+use Prim.Native.Nat.{_-_, _≤_}
+use mathlib.Core.Path.{_≡_}
 use borrow.Author.Needs.{needs}
 use Rattle.doubled.proofs.fill.Statement.{statement}
 use Rattle.doubled.proofs.fill.Tie as tie

@@ -1,13 +1,12 @@
 -- `doubled::halves` meets its contract. The test of the numbers that are left is that of all; the measure is how many are left. Assumes nothing.
 use Rattle.doubled.proofs.Twices.{half-begin, half-step, half-stop}
-use Rattle.doubled.proofs.Checks.{good-begin, good-end}
-use Rattle.doubled.specs.Doubled.{twices, twiceOf}
+use Rattle.doubled.proofs.Checks.{good-end}
+use Rattle.doubled.specs.Doubled.{twices}
 use Rattle.doubled.specs.Checks.{coordinatesOn, coordinatesOf}
 use denote.Ref.{now}
-use native.Mathlib.Nat.{sub-zero}
-use lib.ListN.{length, length-map}
-use Prim.Native.Nat.{ℕ, _-_}
-use mathlib.Core.Path.{_≡_, ap, _∙_}
+use lib.ListN.{length}
+use Prim.Native.Nat.{_-_}
+use mathlib.Core.Path.{_≡_}
 use borrow.Author.Needs.{needs}
 use Rattle.doubled.proofs.halves.Statement.{statement}
 use Rattle.doubled.proofs.halves.Tie as tie

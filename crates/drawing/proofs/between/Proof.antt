@@ -2,7 +2,7 @@
 use Rattle.drawing.proofs.Points.{weight-fits, between-few}
 use mathlib.Core.Path.{refl}
 use native.Mathlib.Omega.{arith}
-use Rattle.drawing.specs.Lines.{between}
+use Rattle.drawing.specs.Lines.{linePoint}
 use Rattle.drawing.proofs.Points.{weight-fits}
 use borrow.Author.Needs.{needs}
 use Rattle.drawing.proofs.between.Statement.{statement}
@@ -48,7 +48,7 @@ div-result : tie.Need-div-result
 div-result c = search needs
 
 returns : tie.Need-returns
-unfolding between
+unfolding linePoint
 returns c =
     let a = c .args in
     let p = c .pre in

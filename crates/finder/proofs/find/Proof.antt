@@ -29,9 +29,9 @@ same-length-3 c = search needs
 
 returns : tie.Need-returns
 returns c =
-    let a = c .before .before .before .before .before .before .before .before .before .before .before .before .before .before
-    .before .before .before .before .before .before .args in
-    let p = c .before .before .before .before .before .before .before .before .prepare in
+    let q = c .before .before .before .before .before .before .before .before in
+    let a = q .before .before .before .before .before .before .before .before .before .before .before .before .args in
+    let p = q .prepare in
     let r = c .refusal in
     let m = sym (number-is (p .result .refused) (r .result) (r .ensures)) in (
       refused-is (now (a .gray)) (a .w) (a .h) (a .most) (p .result .refused) _ (r .result) (r .ensures)
@@ -55,10 +55,10 @@ cast-trace c =
 
 trace-requires : tie.Need-trace-requires
 trace-requires c κs =
-    let a = c .before .before .before .before .before .before .before .before .before .before .before .before .before .before
-    .before .before .before .before .before .before .before .before .before .before .before .before .args in
-    let q = c .before .before .before .before .before .before .before .before .before .before .before .before .before .before
-    .prepare .ensures .1 .1 .1 .1 (c .before .before .before .before .before .before .before .if1 .left) in (
+    let u = c .before .before .before .before .before .before .before in
+    let a = u .before .before .before .before .before .before .before .before .before .before .before .before .before .before .before .before .before .before .before .args in
+    let q = u .before .before .before .before .before .before .before
+    .prepare .ensures .1 .1 .1 .1 (u .if1 .left) in (
       q .photo,
       (
         q .grids,
@@ -96,15 +96,12 @@ same-length-10 c = search needs
 
 returns-2 : tie.Need-returns-2
 returns-2 c =
-    let a = c .before .before .before .before .before .before .before .before .before .before .before .before .before .before
-    .before .before .before .before .before .before .before .before .before .before .before .before .before .before .before
-    .before .before .before .before .before .before .args in
-    let p = c .before .before .before .before .before .before .before .before .before .before .before .before .before .before
-    .before .before .before .before .before .before .before .before .before .prepare in
-    let z = c .before .before .before .before .before .before .before .before .before .before .before .before .before .before
-    .before .before .if1 .left in
+    let u = c .before .before .before .before .before .before .before .before in
+    let a = u .before .before .before .before .before .before .before .before .before .before .before .before .before .before .before .before .before .before .before .before .before .before .before .before .before .before .before .args in
+    let p = u .before .before .before .before .before .before .before .before .before .before .before .before .before .before .before .prepare in
+    let z = u .before .before .before .before .before .before .before .before .if1 .left in
     let q = p .ensures .1 .1 .1 .1 z in
-    let t = c .before .before .before .before .before .before .before .before .trace .ensures in
+    let t = u .trace .ensures in
     let m = z ∙ sym number-given in
     let n = needOf (a .w) (a .h) in (
       given-is (now (a .gray)) (a .w) (a .h) (a .most) _ _ _ (sym (answer-number _ _ (p .result) (p .ensures .0)) ∙ z)

@@ -30,9 +30,10 @@ corners-at-requires c κs = search needs
 
 returns-2 : tie.Need-returns-2
 returns-2 c =
-    let p = now (c .before .before .before .before .before .before .before .before .before .before .args .p) in
-    let t = c .before .before .before .before .before .before .before .farthest in
-    let o = c .before .before .before .before .before .before .most in
+    let q = c .before .before .before .before .before .before in
+    let p = now (q .before .before .before .before .args .p) in
+    let t = q .before .farthest in
+    let o = q .most in
     let v = c .before .before .before .before .before .most2 in
     let s = c .before .before .area-at in
     c .corners-at .ensures
@@ -46,9 +47,10 @@ corners-at-requires-2 c κs = search needs
 
 returns-3 : tie.Need-returns-3
 returns-3 c =
-    let p = now (c .before .before .before .before .before .before .before .before .before .before .args .p) in
-    let t = c .before .before .before .before .before .before .before .farthest in
-    let o = c .before .before .before .before .before .before .most in
+    let q = c .before .before .before .before .before .before in
+    let p = now (q .before .before .before .before .args .p) in
+    let t = q .before .farthest in
+    let o = q .most in
     let v = c .before .before .before .before .before .most2 in
     let s = c .before .before .area-at in
     c .corners-at2 .ensures

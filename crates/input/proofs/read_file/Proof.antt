@@ -32,9 +32,10 @@ same-length-2 c = search needs
 
 returns-2 : tie.Need-returns-2
 returns-2 c =
-    let start = c .before .before .before .before .before .before .before .before .before in
+    let q = c .before .before .before .before .before .before in
+    let start = q .before .before .before in
     let most = start .args .most in
-    let p = c .before .before .before .before .before .before .read-part in
+    let p = q .read-part in
     let others = sym (c .before .has-letters .ensures) ∙ not-true _ (c .if2 .taken) in
     let f = others-read most (p .last .0) others (omega (arith, p .kept .0, start .pre .1)) in
     (f, pictured most _ _ f)
@@ -44,12 +45,13 @@ read-rest-requires c κs = search needs
 
 find-requires : tie.Need-find-requires
 find-requires c κs =
-    let start = c .before .before .before .before .before .before .before .before .before .before .before .before .before .before in
-    let p = c .before .before .before .before .before .before .before .before .before .before .before .read-part in
+    let q = c .before .before .before .before .before .before in
+    let start = q .before .before .before .before .before .before .before .before in
+    let p = q .before .before .before .before .before .read-part in
     let r = c .before .before .before .read-rest in
     let letters =
     letters-same (p .last .0) (r .last .0) (r .ensures .1 .1)
-    ∙ sym (c .before .before .before .before .before .before .has-letters .ensures)
+    ∙ sym (q .has-letters .ensures)
     ∙ not-false _ (c .before .before .before .before .before .if2 .left) in (
       omega (arith, r .ensures .0 .1, r .kept .0, p .kept .0, start .pre .1),
       (letters-kept (r .last .0) (r .result) (r .ensures .0 .0) ∙ letters, start .pre .0),
@@ -60,15 +62,16 @@ same-length-3 c = search needs
 
 returns-3 : tie.Need-returns-3
 returns-3 c =
-    let start = c .before .before .before .before .before .before .before .before .before .before .before .before .before .before .before
+    let q = c .before .before .before .before .before .before in
+    let start = q .before .before .before .before .before .before .before .before .before
     in
     let most = start .args .most in
-    let p = c .before .before .before .before .before .before .before .before .before .before .before .before .read-part in
+    let p = q .before .before .before .before .before .before .read-part in
     let r = c .before .before .before .before .read-rest in
     let letters =
     letters-same (p .last .0) (r .last .0) (r .ensures .1 .1)
-    ∙ sym (c .before .before .before .before .before .before .before .has-letters .ensures)
-    ∙ not-false _ (c .before .before .before .before .before .before .if2 .left) in
+    ∙ sym (q .before .has-letters .ensures)
+    ∙ not-false _ (q .if2 .left) in
     let long : r .result ≤ length (r .last .0) = omega (arith, r .ensures .0 .1, r .kept .0, p .kept .0, start .pre .1) in
     let f = all-read most (r .last .0) (r .result) (c .find .result) letters long (r .ensures .1 .0) (c .find .ensures) in
     (f, pictured most _ _ f)

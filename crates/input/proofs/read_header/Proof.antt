@@ -51,9 +51,10 @@ returns-2 c =
 
 slice-read-step : tie.Need-slice-read-step Inv-loop μ-loop
 slice-read-step c =
-    let r = c .before .before .before .before .before .before .before .before .before .before .loop .inv in
-    let start = c .before .before .before .before .before .before .before .before .before .before .before .before .before in
-    let near = c .before .before .before .before .before .before .before .before .if1 .taken in
+    let q = c .before .before .before .before .before .before .before .before in
+    let r = q .before .before .loop .inv in
+    let start = q .before .before .before .before .before in
+    let near = q .if1 .taken in
     omega (arith, c .before .before .before .before .read-part .kept .0, r .room, start .pre, near)
 
 step-requires : tie.Need-step-requires Inv-loop μ-loop
@@ -61,20 +62,20 @@ step-requires c κs = search needs
 
 loop-less : tie.Need-loop-less Inv-loop μ-loop
 loop-less c =
-    let h = c .before .before .before .before .before .before .before .before .before .before .before .loop .h in
-    let near = c .before .before .before .before .before .before .before .before .before .if1 .taken in
-    let goes = sym (c .before .before .before .before .before .before .before .before .ended .ensures) ∙ c .before .before .before
-    .before .before .before .before .if2 .left in
+    let q = c .before .before .before .before .before .before .before in
+    let h = q .before .before .before .before .loop .h in
+    let near = q .before .before .if1 .taken in
+    let goes = sym (q .before .ended .ensures) ∙ q .if2 .left in
     let z = ap (λ (h : Reading). h .at) (c .step .ensures) ∙ step-counts h _ goes near in
     omega (arith, z, near)
 
 loop-again : tie.Need-loop-again Inv-loop μ-loop
 loop-again c =
-    let start = c .before .before .before .before .before .before .before .before .before .before .before .before .before .before in
-    let so-far = c .before .before .before .before .before .before .before .before .before .before .before .loop .inv in
-    let near = c .before .before .before .before .before .before .before .before .before .if1 .taken in
-    let goes = sym (c .before .before .before .before .before .before .before .before .ended .ensures) ∙ c .before .before .before
-    .before .before .before .before .if2 .left in
+    let q = c .before .before .before .before .before .before .before in
+    let start = q .before .before .before .before .before .before .before in
+    let so-far = q .before .before .before .before .loop .inv in
+    let near = q .before .before .if1 .taken in
+    let goes = sym (q .before .ended .ensures) ∙ q .if2 .left in
     let p = c .before .before .before .before .before .read-part in
     header-more so-far (p .last .0) (p .ensures .1) (p .kept .0) goes near (start .pre) (c .step .result) (c .step .ensures)
 

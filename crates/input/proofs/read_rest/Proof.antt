@@ -26,8 +26,9 @@ same-length c = c .before .before .read-part .kept .0 ∙ c .before .before .bef
 
 returns : tie.Need-returns
 returns c =
-    let most = c .before .before .before .before .before .before .before .before .before .before .args .most in
-    let h = c .before .before .before .before .before .before .before .read-header in
+    let q = c .before .before .before .before .before .before .before in
+    let most = q .before .before .before .args .most in
+    let h = q .read-header in
     let m = c .before .before .before .before .pixels in
     let p = c .before .before .read-part in (
       (omega (arith, h .ensures .0 .0), omega (arith, h .ensures .0 .1, m .ensures .1, p .ensures .0)),

@@ -22,9 +22,9 @@ cells-of-requires-2 c κs = search needs
 
 sharp-requires : tie.Need-sharp-requires
 sharp-requires c κs =
-    let k = c .before .before .before .before .before .before .before .before .before .level-cells in
-    let p = c .before .before .before .before .before .before .before .before .before .before .before .before .before .before .before
-    .before in
+    let u = c .before .before .before .before .before .before .before .before .before in
+    let k = u .level-cells in
+    let p = u .before .before .before .before .before .before .before in
     let a = p .args in
     let ew = c .before .before .before .before .cells-of .ensures in
     let eh = c .before .before .before .cells-of2 .ensures in
@@ -45,13 +45,12 @@ sharp-requires c κs =
 
 fill-passes-requires : tie.Need-fill-passes-requires
 fill-passes-requires c κs =
-    let k = c .before .before .before .before .before .before .before .before .before .before .before .before .before .before .before
-    .before .before .before .level-cells in
-    let s = c .before .before .before .before .before .before .before .before .sharp in
-    let p = c .before .before .before .before .before .before .before .before .before .before .before .before .before .before .before
-    .before .before .before .before .before .before .before .before .before .before in
-    let ew = c .before .before .before .before .before .before .before .before .before .before .before .before .before .cells-of .ensures in
-    let eh = c .before .before .before .before .before .before .before .before .before .before .before .before .cells-of2 .ensures in
+    let u = c .before .before .before .before .before .before .before .before in
+    let k = u .before .before .before .before .before .before .before .before .before .before .level-cells in
+    let s = u .sharp in
+    let p = u .before .before .before .before .before .before .before .before .before .before .before .before .before .before .before .before .before in
+    let ew = u .before .before .before .before .before .cells-of .ensures in
+    let eh = u .before .before .before .before .cells-of2 .ensures in
     let q = p .pre .0 in
     let r = p .pre .1 in (
       grid-of ew eh (q .w-high) (q .h-high) (r .grids) (s .kept .1 .1 .0),
@@ -69,17 +68,14 @@ same-length-3 c = search needs
 
 returns : tie.Need-returns
 returns c =
+    let q = c .before .before .before .before .before .before .before .before .before .before .before .before .before in
     let f = c .before .before .before .before .fill-passes in
-    let s = c .before .before .before .before .before .before .before .before .before .before .before .before .before .sharp in
-    let k = c .before .before .before .before .before .before .before .before .before .before .before .before .before .before .before
-    .before .before .before .before .before .before .before .before .level-cells in
-    let p = c .before .before .before .before .before .before .before .before .before .before .before .before .before .before .before
-    .before .before .before .before .before .before .before .before .before .before .before .before .before .before .before in
+    let s = q .sharp in
+    let k = q .before .before .before .before .before .before .before .before .before .before .level-cells in
+    let p = q .before .before .before .before .before .before .before .before .before .before .before .before .before .before .before .before .before in
     let a = p .args in
-    let ew = c .before .before .before .before .before .before .before .before .before .before .before .before .before .before .before
-    .before .before .before .cells-of .ensures in
-    let eh = c .before .before .before .before .before .before .before .before .before .before .before .before .before .before .before
-    .before .before .cells-of2 .ensures in
+    let ew = q .before .before .before .before .before .cells-of .ensures in
+    let eh = q .before .before .before .before .cells-of2 .ensures in
     let w = cells (a .w) in
     let h = cells (a .h) in
     let d = dark (plane (a .w) (now (a .s))) (a .w) (a .h) in

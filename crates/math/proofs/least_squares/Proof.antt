@@ -1,18 +1,5 @@
 -- `math::least_squares` meets its contract: each check of the door has its case of `fitAnswer`. Assumes nothing.
-use Rattle.math.proofs.Doors.{
-  zeros-length,
-  take-zeros,
-  fit-low,
-  fit-high,
-  fit-lengths,
-  fit-few,
-  fit-pass,
-  square8,
-  zeros-cells,
-  not-whole,
-  not-many,
-  whole-samples,
-}
+use Rattle.math.proofs.Doors.{zeros-length, take-zeros, fit-low, fit-high, fit-lengths, fit-few, fit-pass, square8, zeros-cells, not-whole, not-many, whole-samples}
 use lib.ListN.{length}
 use native.Mathlib.Omega.{arith}
 use Prim.Native.Nat.{_≤_, _*_}

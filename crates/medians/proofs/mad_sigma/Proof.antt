@@ -1,6 +1,6 @@
 -- `medians::mad_sigma` meets its contract: each check of the door has its case of `madSigmaAnswer`; room for 64 values or for 4,096.
 -- Assumes nothing.
-use mathlib.Core.List.{[], _∷_}
+use Rattle.laws.proofs.Bools.{not-true, not-false}
 use Rattle.laws.specs.Said.{give}
 use mathlib.Core.Path.{_≡_, sym, ap, _∙_}
 use mathlib.Core.Bool.{true}
@@ -11,7 +11,6 @@ use lib.Ieee.{Float}
 use Rattle.medians.specs.Median.{allUsable}
 use Rattle.medians.specs.Median.{madSigma}
 use Rattle.medians.specs.Median.{madSigmaAnswer}
-use Rattle.medians.proofs.Usable.{not-yes, not-no}
 use Rattle.medians.proofs.Numbers.{refuse-9, refuse-10, pass, work-length}
 use borrow.Author.Needs.{needs}
 use Rattle.medians.proofs.mad_sigma.Statement.{statement}
@@ -33,7 +32,7 @@ returns-2 c =
     let s = a .before .before .before in
     let h : length (s .args .values .now) ≤ 4096 = omega arith in
     refuse-10 (s .args .values .now) (give (madSigma (s .args .values .now))) h
-    (sym (a .all-fit .ensures .0) ∙ not-yes _ (c .if2 .taken))
+    (sym (a .all-fit .ensures .0) ∙ not-true _ (c .if2 .taken))
 
 array-borrow-prefix-few : tie.Need-array-borrow-prefix-few
 array-borrow-prefix-few c = search needs
@@ -50,7 +49,7 @@ spread-requires c κs =
     let a = c .before .before .before in
     let s = a .before .before .before in
     let h : length (s .args .values .now) ≤ 64 = omega arith in
-    let e = not-no _ (c .before .before .if2 .left) in
+    let e = not-false _ (c .before .before .if2 .left) in
     (work-length 64 (length (s .args .values .now)) h, (sym (a .all-fit .ensures .0) ∙ e, a .all-fit .ensures .1 e))
 
 returns-3 : tie.Need-returns-3
@@ -60,7 +59,7 @@ returns-3 c =
     let a = w .before .before .before .before in
     let s = a .before .before .before in
     let h : length (s .args .values .now) ≤ 4096 = omega arith in
-    let e : allUsable (s .args .values .now) ≡ true = sym (a .all-fit .ensures .0) ∙ not-no _ (w .before .before .before .if2 .left) in
+    let e : allUsable (s .args .values .now) ≡ true = sym (a .all-fit .ensures .0) ∙ not-false _ (w .before .before .before .if2 .left) in
     ap (λ (x : Float). give x) (w .spread .ensures) ∙ pass (s .args .values .now) (give (madSigma (s .args .values .now))) h e
 
 array-borrow-prefix-work : tie.Need-array-borrow-prefix-work
@@ -78,7 +77,7 @@ spread-requires-2 c κs =
     let a = c .before .before .before in
     let s = a .before .before .before in
     let h : length (s .args .values .now) ≤ 4096 = omega arith in
-    let e = not-no _ (c .before .before .if2 .left) in
+    let e = not-false _ (c .before .before .if2 .left) in
     (work-length 4096 (length (s .args .values .now)) h, (sym (a .all-fit .ensures .0) ∙ e, a .all-fit .ensures .1 e))
 
 returns-4 : tie.Need-returns-4
@@ -88,7 +87,7 @@ returns-4 c =
     let a = w .before .before .before .before in
     let s = a .before .before .before in
     let h : length (s .args .values .now) ≤ 4096 = omega arith in
-    let e : allUsable (s .args .values .now) ≡ true = sym (a .all-fit .ensures .0) ∙ not-no _ (w .before .before .before .if2 .left) in
+    let e : allUsable (s .args .values .now) ≡ true = sym (a .all-fit .ensures .0) ∙ not-false _ (w .before .before .before .if2 .left) in
     ap (λ (x : Float). give x) (w .spread2 .ensures) ∙ pass (s .args .values .now) (give (madSigma (s .args .values .now))) h e
 
 pub mad-sigma-spec : {M : Type 1} → statement M

@@ -1,6 +1,6 @@
 -- `medians::median` meets its contract: each check of the door has its case of `medianAnswer`; a refusal leaves the list alone.
 -- Assumes nothing.
-use mathlib.Core.List.{[], _∷_}
+use Rattle.laws.proofs.Bools.{not-true, not-false}
 use Rattle.laws.specs.Said.{give}
 use Rattle.medians.specs.Median.{median}
 use Rattle.medians.specs.Median.{medianAnswer}
@@ -12,7 +12,6 @@ use native.Mathlib.Omega.{arith}
 use lib.ListN.{length}
 use lib.Ieee.{Float}
 use Rattle.medians.specs.Median.{allUsable}
-use Rattle.medians.proofs.Usable.{not-yes, not-no}
 use borrow.Author.Needs.{needs}
 use Rattle.medians.proofs.median.Statement.{statement}
 use Rattle.medians.proofs.median.Tie as tie
@@ -36,12 +35,12 @@ returns-2 c =
     let s = a .before .before .before .before in
     let h : length (s .args .values .now) ≤ 4096 = omega arith in (
       refuse-10 (s .args .values .now) (give (median (s .args .values .now))) h
-          (sym (a .all-fit .ensures .0) ∙ not-yes _ (c .if2 .taken)),
+          (sym (a .all-fit .ensures .0) ∙ not-true _ (c .if2 .taken)),
       refl,
     )
 
 middle-requires : tie.Need-middle-requires
-middle-requires c κs = let a = c .before .before in a .all-fit .ensures .1 (not-no _ (c .before .if2 .left))
+middle-requires c κs = let a = c .before .before in a .all-fit .ensures .1 (not-false _ (c .before .if2 .left))
 
 same-length-2 : tie.Need-same-length-2
 same-length-2 c = search needs
@@ -53,7 +52,7 @@ returns-3 c =
     let a = w .before .before .before in
     let s = a .before .before .before .before in
     let h : length (s .args .values .now) ≤ 4096 = omega arith in
-    let e : allUsable (s .args .values .now) ≡ true = sym (a .all-fit .ensures .0) ∙ not-no _ (w .before .before .if2 .left) in (
+    let e : allUsable (s .args .values .now) ≡ true = sym (a .all-fit .ensures .0) ∙ not-false _ (w .before .before .if2 .left) in (
       ap (λ (x : Float). give x) (w .middle .ensures .0 .0)
           ∙ pass (s .args .values .now) (give (median (s .args .values .now))) h e,
       w .middle .ensures .0 .1,

@@ -1,5 +1,5 @@
 -- `overlay::file_room`: so many zeros are as many. Assumes nothing.
-use Rattle.packed.proofs.Places.{same-places}
+use Rattle.word_bytes.proofs.Places.{same-places}
 use Rattle.overlay.proofs.file_room.Statement.{statement}
 use Rattle.overlay.proofs.file_room.Tie as tie
 

@@ -1,9 +1,7 @@
 -- The first refusal of the picture's checks stands whatever follows (check-off). Assumes nothing.
-use Prim.Native.Nat.{ℕ}
-use mathlib.Core.Path.{_∙_, sym}
-use native.Mathlib.Omega.{arith}
+use mathlib.Core.Path.{_∙_}
 use borrow.Author.Needs.{needs}
-use Rattle.checks.proofs.Checked.{check-off}
+use Rattle.picture_checks.proofs.Checked.{check-off}
 use Rattle.picture.proofs.check.Statement.{statement}
 use Rattle.picture.proofs.check.Tie as tie
 

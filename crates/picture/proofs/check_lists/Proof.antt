@@ -5,7 +5,7 @@ use native.Mathlib.Omega.{arith}
 use borrow.Author.Needs.{needs}
 use borrow.Author.Tests.{eq-eqb, le-leb, lt-leb}
 use Rattle.levels.specs.Level.{cells}
-use Rattle.regions.specs.Cells.{cellsOf}
+use Rattle.labels.specs.Cells.{cellsOf}
 use Rattle.picture.proofs.check_lists.Statement.{statement}
 use Rattle.picture.proofs.check_lists.Tie as tie
 
@@ -73,10 +73,11 @@ returns-2 c =
 
 returns-3 : tie.Need-returns-3
 returns-3 c =
-    let a = c .before .before .before .before .before .before .before .args in
+    let q = c .before .before .before .before .before .before in
+    let a = q .before .args in
     let grid : cells (a .w) * cells (a .h) ≤ a .grid =
     rw (
-      ← c .before .before .before .before .before .before .cells-of .ensures,
+      ← q .cells-of .ensures,
       ← c .before .before .before .before .before .cells-of2 .ensures,
     ) (c .before .before .before .before .if1 .left) in
     let label : cellsOf (a .w) (a .h) ≤ a .labels =
@@ -98,10 +99,11 @@ returns-3 c =
 
 returns-4 : tie.Need-returns-4
 returns-4 c =
-    let a = c .before .before .before .before .before .before .before .args in
+    let q = c .before .before .before .before .before .before in
+    let a = q .before .args in
     let grid : cells (a .w) * cells (a .h) ≤ a .grid =
     rw (
-      ← c .before .before .before .before .before .before .cells-of .ensures,
+      ← q .cells-of .ensures,
       ← c .before .before .before .before .before .cells-of2 .ensures,
     ) (c .before .before .before .before .if1 .left) in
     let label : cellsOf (a .w) (a .h) ≤ a .labels =

@@ -10,8 +10,8 @@ use Rattle.laws.proofs.Past.{past-front}
 use Rattle.laws.specs.Plane.{plane}
 use Rattle.picture.proofs.Outcomes.{labels-most, labels-tab, many-most}
 use Rattle.regions.proofs.Listing.{regions-listed}
-use Rattle.regions.specs.Cells.{cells8, cellsOf}
-use Rattle.regions.specs.Listed.{keptIn}
+use Rattle.labels.specs.Cells.{cells8, cellsOf}
+use Rattle.regions.specs.Inner.{keptIn}
 use Rattle.picture.proofs.count_regions.Statement.{statement}
 use Rattle.picture.proofs.count_regions.Tie as tie
 
@@ -69,7 +69,8 @@ same-length c = search needs
 
 returns : tie.Need-returns
 returns c =
-    let p = c .before .before .before .before .before .before .before .before .before .before in
+    let q = c .before .before .before .before .before .before in
+    let p = q .before .before .before .before in
     let a = p .args in
     let n = cellsOf (a .w) (a .h) in
     let few = many-most (now (a .s)) (a .w) (a .h) (now (a .labels)) (a .v) (p .pre .1 .1) (p .pre .1 .0 .0) in
@@ -78,7 +79,7 @@ returns c =
     let is : r .result ≡ keptIn (take n (now (a .labels))) (a .v) (cells8 (a .w)) (cells8 (a .h)) (a .w) (a .h) =
     rw (
       c .before .before .before .before .before .region-cells2 .ensures,
-      c .before .before .before .before .before .before .region-cells .ensures,
+      q .region-cells .ensures,
       long,
     ) at (r .ensures) in (
       is ∙ regions-listed (plane (a .w) (now (a .s))) (a .w) (a .h) (take n (now (a .labels)))

@@ -4,7 +4,7 @@ use native.Mathlib.Omega.{arith}
 use borrow.Author.Needs.{needs}
 use denote.Ref.{now}
 use Rattle.picture.proofs.Outcomes.{level-cells-few, levelled-of, mapped-of}
-use Rattle.regions.specs.Cells.{cells8}
+use Rattle.labels.specs.Cells.{cells8}
 use Rattle.picture.proofs.ink_map.Statement.{statement}
 use Rattle.picture.proofs.ink_map.Tie as tie
 
@@ -13,9 +13,9 @@ level-grid-requires c κs = search needs
 
 mark-cells-requires : tie.Need-mark-cells-requires
 mark-cells-requires c κs =
-    let p = c .before .before .before .before .before .before .before .before .before .before .before .before .before .before .before
-    .before in
-    let g = c .before .before .before .before .before .before .before .before .level-grid in (
+    let q = c .before .before .before .before .before .before .before .before in
+    let p = q .before .before .before .before .before .before .before .before in
+    let g = q .level-grid in (
       levelled-of (now (p .args .grid)) (p .pre .0) (g .ensures .0) (rw (g .kept .1 .1 .1 .0) (p .pre .1 .0 .grids)),
       rw (g .kept .1 .1 .1 .1 .0) (p .pre .1 .1),
     )
@@ -28,13 +28,13 @@ region-cells-requires-2 c κs = search needs
 
 label-all-requires : tie.Need-label-all-requires
 label-all-requires c κs =
-    let p = c .before .before .before .before .before .before .before .before .before .before .before .before .before .before .before
-    .before .before .before .before .before .before .before .before in
+    let u = c .before .before .before .before .before .before in
+    let p = u .before .before .before .before .before .before .before .before .before .before .before .before .before .before .before .before .before in
     let a = p .args in
     let q = p .pre .0 in
-    let g = c .before .before .before .before .before .before .before .before .before .before .before .before .before .before .before
+    let g = u .before .before .before .before .before .before .before .before .before
     .level-grid in
-    let m = c .before .before .before .before .before .before .mark-cells in
+    let m = u .mark-cells in
     let all = mul-le-mul {n₁ = cells8 (a .h)} {m₁ = cells8 (a .w)} {n₂ = 512} {m₂ = 512} (omega (arith, q .h-high))
     (omega (arith, q .w-high)) in
     rw (c .region-cells2 .ensures, c .before .region-cells .ensures)
@@ -51,17 +51,16 @@ same-length-3 c = search needs
 
 returns : tie.Need-returns
 returns c =
-    let p = c .before .before .before .before .before .before .before .before .before .before .before .before .before .before .before
-    .before .before .before .before .before .before .before .before .before .before .before .before .before in
+    let q = c .before .before .before .before .before .before in
+    let p = q .before .before .before .before .before .before .before .before .before .before .before .before .before .before .before .before .before .before .before .before .before .before in
     let a = p .args in
-    let g = c .before .before .before .before .before .before .before .before .before .before .before .before .before .before .before
-    .before .before .before .before .before .level-grid in
-    let m = c .before .before .before .before .before .before .before .before .before .before .before .mark-cells in
+    let g = q .before .before .before .before .before .before .before .before .before .before .before .before .before .before .level-grid in
+    let m = q .before .before .before .before .before .mark-cells in
     let l = c .before .before .before .before .label-all in (
       g .ensures .0,
       mapped-of (now (a .s)) (a .w) (a .h) _ _ (now (a .labels)) (now (a .stack)) (g .last .1 .1 .1 .1 .0) (m .last .1 .1 .1 .1 .0)
           (g .last .1 .1 .1 .1 .1 .0)
-          (l .last .0) (l .last .1 .0) (c .before .before .before .before .before .before .region-cells .ensures)
+          (l .last .0) (l .last .1 .0) (q .region-cells .ensures)
           (c .before .before .before .before .before .region-cells2 .ensures) (g .ensures .1 .0) (g .ensures .1 .1)
           (level-cells-few (a .w) (a .h)) (g .kept .1 .1 .1 .1 .0) (g .kept .1 .1 .1 .1 .1 .0) (m .ensures) (m .kept .1 .1 .1 .1 .0)
           (l .ensures),

@@ -14,7 +14,8 @@ use Rattle.laws.specs.Count.{count}
 use Rattle.laws.specs.Fold.{first}
 use Rattle.laws.specs.Plane.{plane}
 use Rattle.picture.proofs.Outcomes.{answer-refused, check-few, labelled-by, level-cells-few, mapped-at, mapped-full}
-use Rattle.regions.specs.Door.{answerBy, checkGrids, keptRegions}
+use Rattle.picture.specs.Door.{answerBy, checkGrids}
+use Rattle.regions.specs.Regions.{keptRegions}
 use Rattle.laws.proofs.Past.{past-then}
 use Rattle.picture.proofs.picture.Statement.{statement}
 use Rattle.picture.proofs.picture.Tie as tie
@@ -76,20 +77,20 @@ same-length-3 c = search needs
 
 returns-2 : tie.Need-returns-2
 returns-2 c =
-    let p = c .before .before .before .before .before .before .before .before .before .before .before .before .before .before .check
+    let q = c .before .before .before .before .before .before .before .before .before in
+    let p = q .before .before .before .before .before .check
     .ensures .1 (omega arith) in
-    let i = c .before .before .before .before .before .before .before .before .before .ink-map in
+    let i = q .ink-map in
     let f = mapped-full (i .ensures .1) (c .before .enum-told .given .1) in
     let r = c .refusal2 .ensures in
     (absurd (omega (arith, f .0, p .1 .room)), (rw r (i .ensures .0), (rw r (f .1), rw r (f .2))))
 
 count-regions-requires : tie.Need-count-regions-requires
 count-regions-requires c κs =
-    let p = c .before .before .before .before .before .before .before .before .before .before .before .before .before .before .before
-    .before .check .ensures .1 (omega arith) in
-    let a = c .before .before .before .before .before .before .before .before .before .before .before .before .before .before .before
-    .before .before .before .before .before .before .args in
-    let i = c .before .before .before .before .before .before .before .before .before .before .before .ink-map in
+    let q = c .before .before .before .before .before .before .before .before .before .before .before in
+    let p = q .before .before .before .before .before .check .ensures .1 (omega arith) in
+    let a = q .before .before .before .before .before .before .before .before .before .before .args in
+    let i = q .ink-map in
     let m = mapped-at (i .ensures .1) (c .before .before .before .v .given .1) in (
       record { w-low = p .0 .w-low; w-high = p .0 .w-high; h-low = p .0 .h-low; h-high = p .0 .h-high; count = p .0 .count },
       (
@@ -109,17 +110,15 @@ same-length-6 c = search needs
 
 returns-3 : tie.Need-returns-3
 returns-3 c =
-    let a = c .before .before .before .before .before .before .before .before .before .before .before .before .before .before .before
-    .before .before .before .before .before .before .before .before .before .args in
-    let k = c .before .before .before .before .before .before .before .before .before .before .before .before .before .before .before
-    .before .before .before .before .check in
-    let i = c .before .before .before .before .before .before .before .before .before .before .before .before .before .before .ink-map in
-    let m = mapped-at (i .ensures .1) (c .before .before .before .before .before .before .v .given .1) in
+    let q = c .before .before .before .before .before .before in
+    let a = q .before .before .before .before .before .before .before .before .before .before .before .before .before .before .before .before .before .before .args in
+    let k = q .before .before .before .before .before .before .before .before .before .before .before .before .before .check in
+    let i = q .before .before .before .before .before .before .before .before .ink-map in
+    let m = mapped-at (i .ensures .1) (q .v .given .1) in
     let r = c .before .before .count-regions in
     let passed : checkGrids (a .w) (a .h) (length (now (a .s))) (length (now (a .grid))) (length (now (a .labels)))
     (length (now (a .stack))) ≡ 0 =
-    sym (k .ensures .0) ∙ c .before .before .before .before .before .before .before .before .before .before .before .before .before .before
-    .before .before .before .before .if1 .left in (
+    sym (k .ensures .0) ∙ q .before .before .before .before .before .before .before .before .before .before .before .before .if1 .left in (
       rw (passed, r .ensures .0),
       (i .ensures .0, (m .0, past-then (m .2) (r .ensures .1))),
     )

@@ -1,11 +1,11 @@
 -- By computation. Assumes nothing.
 use mathlib.Core.Path.{refl}
-use Rattle.regions.specs.Door.{noRegion, noRegions}
+use Rattle.regions.specs.Regions.{noRegions}
 use Rattle.picture.proofs.refusal.Statement.{statement}
 use Rattle.picture.proofs.refusal.Tie as tie
 
 returns : tie.Need-returns
-unfolding noRegions noRegion
+unfolding noRegions
 returns c = refl
 
 pub refusal-spec : {M : Type 1} → statement M

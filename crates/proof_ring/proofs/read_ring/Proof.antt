@@ -49,10 +49,11 @@ positions-requires c κs = search needs
 
 read-marks-requires : tie.Need-read-marks-requires
 read-marks-requires c κs =
-    let a = c .before .before .before .before .before .before .before .before .before .before .before .args in
+    let q = c .before .before .before .before .before .before in
+    let a = q .before .before .before .before .before .args in
     let f = c .before .before .before .before .check .ensures .1 (c .before .before .before .if1 .left) in (
-      known-is (a .version) _ _ (c .before .before .before .before .before .before .before .before .new .ensures)
-          (c .before .before .before .before .before .before .v .given .1),
+      known-is (a .version) _ _ (q .before .before .new .ensures)
+          (q .v .given .1),
       (
         (f .1 .pitch-low, f .1 .pitch-high, f .0 .w-high),
         (
@@ -70,25 +71,27 @@ same-length c = search needs
 
 returns-3 : tie.Need-returns-3
 returns-3 c =
-    let a = c .before .before .before .before .before .before .before .before .before .before .before .before .before .before .args in
+    let q = c .before .before .before .before .before .before in
+    let a = q .before .before .before .before .before .before .before .before .args in
     let k = version-known (a .version) _ _
-    (c .before .before .before .before .before .before .before .before .before .before .before .new .ensures)
-    (c .before .before .before .before .before .before .before .before .before .v .given .1) in
+    (q .before .before .before .before .before .new .ensures)
+    (q .before .before .before .v .given .1) in
     let rest : ℕ = orRefuse (eqb (length (a .marks .now)) (positionsOf (a .version))) 11 0 in
     let n = c .before .before .before .before .if2 .taken ∙ c .before .before .before .before .before .positions .ensures ∙ ap positionsOf
     (k .1) in (
       done-by 0 _ refl
           (marks-right (length (a .marks .now)) (positionsOf (a .version)) n
           ∙ more-passed (a .version) _ (a .pitch) 0 (a .w) (a .h) (length (a .pixels .now)) _ (k .0) (k .1)
-          (c .before .before .before .before .before .before .before .check .ensures .0) rest
-          (c .before .before .before .before .before .before .if1 .left)),
+          (q .before .check .ensures .0) rest
+          (q .if1 .left)),
       c .before .before .read-marks .ensures ∙ ap (λ (m : ℕ). marksRead m (a .pitch) (a .pixels .now) (a .w)) (k .1),
     )
 
 returns-4 : tie.Need-returns-4
 returns-4 c =
-    let a = c .before .before .before .before .before .before .before .before .before .before .args in
-    let k = version-known (a .version) _ _ (c .before .before .before .before .before .before .before .new .ensures)
+    let q = c .before .before .before .before .before .before .before in
+    let a = q .before .before .before .args in
+    let k = version-known (a .version) _ _ (q .new .ensures)
     (c .before .before .before .before .before .v .given .1) in
     let rest : ℕ = orRefuse (eqb (length (a .marks .now)) (positionsOf (a .version))) 11 0 in
     let n = c .before .positions .ensures ∙ ap positionsOf (k .1) in (

@@ -1,5 +1,5 @@
 -- `tags::file_room` meets its contract. Assumes nothing.
-use Rattle.packed.proofs.Places.{same-places}
+use Rattle.word_bytes.proofs.Places.{same-places}
 use Rattle.tags.proofs.file_room.Statement.{statement}
 use Rattle.tags.proofs.file_room.Tie as tie
 

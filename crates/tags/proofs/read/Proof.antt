@@ -45,8 +45,9 @@ part-text-of-end c =
     omega (arith, p .within)
 
 text-of-requires : tie.Need-text-of-requires
-text-of-requires c κs = part-taken (c .before .before .before .before .before .before .before .read-file .last .0) _ _ _ (c .before
-    .before .before .before .before .before .before .read-file .ensures .1 _ _ _ (c .before .before .before .w .given .1))
+text-of-requires c κs =
+    let q = c .before .before .before .before .before .before .before in
+    part-taken (q .read-file .last .0) _ _ _ (q .read-file .ensures .1 _ _ _ (c .before .before .before .w .given .1))
 
 print-requires-2 : tie.Need-print-requires-2
 print-requires-2 c κs = search needs

@@ -52,21 +52,11 @@ tags-requires c κs = search needs
 
 returns : tie.Need-returns
 returns c =
-    let a = c .before .before .before .before .before .before .before .before .before .before .before .before .before .before .before
-    .before .before .before .before .before .before .before .before .args in
-    answer-taken (now (a .gray)) (a .w) (a .h) (c .before .before .before .before .before .before .before .before .before .before .before
-    .before .before .before .before .before .before .before .before .before .before .before .before .pre) (c .before .before .before
-    .before .before .before .before .tags .result)
-    (c .before .before .before .before .before .before .before .before .before .before .before .before .before .before .before .before
-    .before .before .before .before .before .level-room .ensures) (c .before .before .before .before .before .before .before .before
-    .before .before .before .before .before .before .before .before .before .before .before .before .cell-room .ensures) (c .before
-    .before .before .before .before .before .before .before .before .before .before .before .before .before .before .before .before
-    .before .before .cell-room2 .ensures) (c .before .before .before .before .before .before .before .before .before .before .before
-    .before .before .before .before .before .before .before .point-room .ensures)
-    (c .before .before .before .before .before .before .before .before .before .before .before .before .before .before .before .before
-    .before .point-room2 .ensures) (c .before .before .before .before .before .before .before .before .before .before .before .before
-    .before .before .before .before .point-room3 .ensures) (c .before .before .before .before .before .before .before .before .before
-    .before .before .before .before .before .before .point-room4 .ensures) (c .before .before .before .before .before .before .before
+    let q = c .before .before .before .before .before .before .before in
+    let a = q .before .before .before .before .before .before .before .before .before .before .before .before .before .before .before .before .args in
+    answer-taken (now (a .gray)) (a .w) (a .h) (q .before .before .before .before .before .before .before .before .before .before .before .before .before .before .before .before .pre) (q .tags .result)
+    (q .before .before .before .before .before .before .before .before .before .before .before .before .before .before .level-room .ensures) (q .before .before .before .before .before .before .before .before .before .before .before .before .before .cell-room .ensures) (q .before .before .before .before .before .before .before .before .before .before .before .before .cell-room2 .ensures) (q .before .before .before .before .before .before .before .before .before .before .before .point-room .ensures)
+    (q .before .before .before .before .before .before .before .before .before .before .point-room2 .ensures) (q .before .before .before .before .before .before .before .before .before .point-room3 .ensures) (q .before .before .before .before .before .before .before .before .point-room4 .ensures) (q
     .tags .ensures .0)
 
 pub tags-of-spec : {M : Type 1} → statement M

@@ -30,10 +30,11 @@ shared-slice-read-put-byte c = search needs
 
 put-byte-requires : tie.Need-put-byte-requires Inv-loop μ-loop
 put-byte-requires c κs =
-    let a = c .before .before .before .before .before .before .args in
+    let u = c .before .before .before .before .before .before in
+    let a = u .args in
     let q = c .before .before .before .loop in
     let t = length-take-le (q .i) (now (a .word)) (omega arith) in
-    omega (arith, t, q .inv .1 .next, stored-length (q .inv .1), c .before .before .before .before .before .before .pre)
+    omega (arith, t, q .inv .1 .next, stored-length (q .inv .1), u .pre)
 
 add-i : tie.Need-add-i Inv-loop μ-loop
 add-i c = search needs
@@ -43,8 +44,9 @@ loop-less c = search needs
 
 loop-again : tie.Need-loop-again Inv-loop μ-loop
 loop-again c =
-    let a = c .before .before .before .before .before .before .before .before .before .args in
-    let q = c .before .before .before .before .before .before .loop in
+    let u = c .before .before .before .before .before .before in
+    let a = u .before .before .before .args in
+    let q = u .loop in
     (omega arith, word-more (now (a .word)) (q .i) (omega arith) (q .inv .1) (c .before .before .put-byte .ensures))
 
 same-length : tie.Need-same-length Inv-loop μ-loop

@@ -39,28 +39,31 @@ enum-told-3 c = search needs
 
 returns : tie.Need-returns
 returns c =
-    let r = c .before .before .before .before .before .before .run in
-    let m = c .before .before .before .before .before .before .before .before .before .equations-of in
+    let q = c .before .before .before .before .before .before in
+    let r = q .run in
+    let m = q .before .before .before .equations-of in
     ap Some (c .coefficients .ensures)
     ∙ quad-is _ _ _ _ _ _ Solved
-    (c .before .before .before .before .before .before .before .before .before .before .before .wide8 .ensures)
-    (c .before .before .before .before .before .before .before .before .before .before .wide82 .ensures) (m .ensures) (r .ensures)
+    (q .before .before .before .before .before .wide8 .ensures)
+    (q .before .before .before .before .wide82 .ensures) (m .ensures) (r .ensures)
     (c .before .enum-told .given .1)
 
 returns-2 : tie.Need-returns-2
 returns-2 c =
+    let q = c .before .before .before .before .before .before .before .before in
     let r = c .before .before .before .before .before .run in
-    let m = c .before .before .before .before .before .before .before .before .equations-of in
-    quad-is _ _ _ _ _ _ Nothing (c .before .before .before .before .before .before .before .before .before .before .wide8 .ensures)
-    (c .before .before .before .before .before .before .before .before .before .wide82 .ensures) (m .ensures) (r .ensures)
+    let m = q .equations-of in
+    quad-is _ _ _ _ _ _ Nothing (q .before .before .wide8 .ensures)
+    (q .before .wide82 .ensures) (m .ensures) (r .ensures)
     (c .enum-told2 .given .1)
 
 returns-3 : tie.Need-returns-3
 returns-3 c =
+    let q = c .before .before .before .before .before .before .before .before in
     let r = c .before .before .before .before .before .run in
-    let m = c .before .before .before .before .before .before .before .before .equations-of in
-    quad-is _ _ _ _ _ _ (Refused _) (c .before .before .before .before .before .before .before .before .before .before .wide8 .ensures)
-    (c .before .before .before .before .before .before .before .before .before .wide82 .ensures) (m .ensures) (r .ensures)
+    let m = q .equations-of in
+    quad-is _ _ _ _ _ _ (Refused _) (q .before .before .wide8 .ensures)
+    (q .before .wide82 .ensures) (m .ensures) (r .ensures)
     (c .enum-told3 .given .1)
 
 pub from-quad-spec : {M : Type 1} → statement M

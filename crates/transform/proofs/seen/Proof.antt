@@ -1,5 +1,4 @@
 -- `transform::seen` meets its contract, step by step as `applied` has it. Assumes nothing.
-use mathlib.Core.Path.{refl}
 use borrow.Author.Needs.{needs}
 use Rattle.transform.proofs.Parts.{applied-is}
 use Rattle.transform.proofs.seen.Statement.{statement}

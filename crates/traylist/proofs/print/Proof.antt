@@ -1,5 +1,5 @@
 -- `traylist::print` meets its contract. Assumes nothing.
-use Rattle.listing.specs.Listing.{filled, textOf}
+use Rattle.traylist_text.specs.Listing.{filled, textOf}
 use lib.Seq.{length-take-le}
 use lib.ListN.{length, take, drop, replicate, length-append}
 use native.Mathlib.Omega.{arith}

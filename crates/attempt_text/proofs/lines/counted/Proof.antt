@@ -20,9 +20,10 @@ same-length c = search needs
 
 returns : tie.Need-returns
 returns c =
-    let a = c .before .before .before .before .before .before .before .before .before .before .before .before .before .before .args in
-    let w = c .before .before .before .before .before .before .before .before .before .before .put-word .ensures in
-    let n = c .before .before .before .before .before .before .put-count .ensures in
+    let q = c .before .before .before .before .before .before in
+    let a = q .before .before .before .before .before .before .before .before .args in
+    let w = q .before .before .before .before .put-word .ensures in
+    let n = q .put-count .ensures in
     let e = c .before .before .put-byte .ensures in
     (counted-stored (now (a .word)) (a .n) w (n .0) e, omega (arith, w .next, n .1, e .next))
 

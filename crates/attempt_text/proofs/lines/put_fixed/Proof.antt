@@ -26,8 +26,9 @@ same-length c = search needs
 
 returns : tie.Need-returns
 returns c =
-    let a = c .before .before .before .before .before .before .before .before .before .before .before .before .before .args in
-    let w = c .before .before .before .before .before .before .before .before .before .put-word .ensures in
+    let q = c .before .before .before .before .before .before .before .before .before in
+    let a = q .before .before .before .before .args in
+    let w = q .put-word .ensures in
     let e = c .before .before .line .ensures in
     (no-ring (now (a .word)) (a .f) w (c .before .before .before .before .before .enum-told .given .1) (e .0), omega (arith, w .next, e .1))
 
@@ -39,8 +40,9 @@ same-length-2 c = search needs
 
 returns-2 : tie.Need-returns-2
 returns-2 c =
-    let a = c .before .before .before .before .before .before .before .before .before .before .before .before .before .args in
-    let w = c .before .before .before .before .before .before .before .before .before .put-word .ensures in
+    let q = c .before .before .before .before .before .before .before .before .before in
+    let a = q .before .before .before .before .args in
+    let w = q .put-word .ensures in
     let e = c .before .before .put-ring .ensures in
     (some-ring (now (a .word)) (a .f) w _ (c .before .before .before .before .before .f .given .1) (e .0), omega (arith, w .next, e .1))
 

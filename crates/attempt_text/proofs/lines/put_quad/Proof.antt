@@ -25,10 +25,11 @@ same-length c = search needs
 
 returns : tie.Need-returns
 returns c =
-    let w = c .before .before .before .before .before .before .before .before .before .before .before .put-word .ensures in
-    let s = c .before .before .before .before .before .before .put-singles .ensures in
+    let q = c .before .before .before .before .before .before in
+    let w = q .before .before .before .before .before .put-word .ensures in
+    let s = q .put-singles .ensures in
     let e = c .before .before .put-byte .ensures in (
-      found-quad (c .before .before .before .before .before .before .before .before .before .before .before .before .before .before .before
+      found-quad (q .before .before .before .before .before .before .before .before .before
           .args .q) w (s .0) e,
       omega (arith, w .next, s .1, e .next),
     )

@@ -22,10 +22,11 @@ same-length c = search needs
 
 returns : tie.Need-returns
 returns c =
-    let v = c .before .before .before .before .before .before .before .before .before .before .before .before .before .before .put-small
+    let q = c .before .before .before .before .before .before in
+    let v = q .before .before .before .before .before .before .before .before .put-small
     .ensures in
-    let a = c .before .before .before .before .before .before .before .before .before .before .put-single .ensures in
-    let m = c .before .before .before .before .before .before .put-map .ensures in
+    let a = q .before .before .before .before .put-single .ensures in
+    let m = q .put-map .ensures in
     let e = c .before .before .put-byte .ensures in
     (stored-append (v .0) (stored-append (a .0) (stored-append (m .0) e)), omega (arith, v .1, a .1, m .1, e .next))
 

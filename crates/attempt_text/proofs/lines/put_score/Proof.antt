@@ -34,18 +34,16 @@ same-length c = search needs
 
 returns : tie.Need-returns
 returns c =
-    let w = c .before .before .before .before .before .before .before .before .before .before .before .before .before .before .before
-    .before .before .before .before .before .before .before .before .put-word .ensures in
-    let v = c .before .before .before .before .before .before .before .before .before .before .before .before .before .before .before
-    .before .before .before .before .put-small .ensures in
-    let a = c .before .before .before .before .before .before .before .before .before .before .before .before .before .before .before
+    let q = c .before .before .before .before .before .before in
+    let w = q .before .before .before .before .before .before .before .before .before .before .before .before .before .before .before .before .before .put-word .ensures in
+    let v = q .before .before .before .before .before .before .before .before .before .before .before .before .before .put-small .ensures in
+    let a = q .before .before .before .before .before .before .before .before .before
     .put-single .ensures in
-    let k = c .before .before .before .before .before .before .before .before .before .before .before .put-count .ensures in
-    let f = c .before .before .before .before .before .before .before .flag in
-    let m = c .before .before .before .before .before .before .put-small2 .ensures in
+    let k = q .before .before .before .before .before .put-count .ensures in
+    let f = q .before .flag in
+    let m = q .put-small2 .ensures in
     let e = c .before .before .put-byte .ensures in (
-      score-stored (c .before .before .before .before .before .before .before .before .before .before .before .before .before .before
-          .before .before .before .before .before .before .before .before .before .before .before .before .before .args .s) (f .result) (f
+      score-stored (q .before .before .before .before .before .before .before .before .before .before .before .before .before .before .before .before .before .before .before .before .before .args .s) (f .result) (f
           .ensures) w (v .0) (a .0) (k .0) (m .0) e,
       omega (arith, w .next, v .1, a .1, k .1, m .1, e .next),
     )

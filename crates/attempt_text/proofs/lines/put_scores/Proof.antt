@@ -19,11 +19,12 @@ same-length c = search needs
 
 returns : tie.Need-returns
 returns c =
-    let a = c .before .before .before .before .before .before .before .counted .ensures in
+    let q = c .before .before .before .before .before .before .before in
+    let a = q .counted .ensures in
     let b = c .before .before .put-list .ensures in (
-      scores-stored (c .before .before .before .before .before .before .before .before .before .before .before .args .s) (a .0) (b .0),
+      scores-stored (q .before .before .before .before .args .s) (a .0) (b .0),
       omega
-          (arith, a .1, b .1, c .before .before .before .before .before .before .before .before .before .before .before .pre .0),
+          (arith, a .1, b .1, q .before .before .before .before .pre .0),
     )
 
 pub put-scores-spec : {M : Type 1} → statement M

@@ -34,16 +34,13 @@ same-length c = search needs
 
 returns : tie.Need-returns
 returns c =
-    let h = c .before .before .before .before .before .before .before .before .before .before .before .before .before .before .before
-    .before .before .before .before .before .counted .ensures in
-    let q = c .before .before .before .before .before .before .before .before .before .before .before .before .before .before .before
-    .before .put-corners .ensures in
-    let s = c .before .before .before .before .before .before .before .before .before .before .before .before .put-scores .ensures in
-    let f = c .before .before .before .before .before .before .before .put-fixed .ensures in
+    let u = c .before .before .before .before .before .before .before in
+    let h = u .before .before .before .before .before .before .before .before .before .before .before .before .before .counted .ensures in
+    let q = u .before .before .before .before .before .before .before .before .before .put-corners .ensures in
+    let s = u .before .before .before .before .before .put-scores .ensures in
+    let f = u .put-fixed .ensures in
     let g = c .before .before .put-fixed2 .ensures in (
-      trace-stored (c .before .before .before .before .before .before .before .before .before .before .before .before .before
-          .before .before
-          .before .before .before .before .before .before .before .before .before .before .args .t) (h .0) (q .0) (s .0) (f .0) (g .0),
+      trace-stored (u .before .before .before .before .before .before .before .before .before .before .before .before .before .before .before .before .before .before .args .t) (h .0) (q .0) (s .0) (f .0) (g .0),
       omega
           (arith, h .1, q .1, s .1, f .1, g .1),
     )

@@ -23,9 +23,9 @@ same-length c = search needs
 returns : tie.Need-returns
 unfolding single
 returns c =
+    let q = c .before .before .before .before .before .before .before .before in
     let u = c .before .before .put-word in (
-      nan-stored binary32 8 (c .before .before .before .before .before .before .before .before .before .before .before .args .x) (c .before
-          .before .before .before .before .before .before .before .put-byte .ensures) (c .before .before .before .before .before
+      nan-stored binary32 8 (q .before .before .before .args .x) (q .put-byte .ensures) (c .before .before .before .before .before
           .if1 .taken) (u
           .ensures),
       omega (arith, u .ensures .next),
@@ -46,10 +46,10 @@ same-length-2 c = search needs
 returns-2 : tie.Need-returns-2
 unfolding single
 returns-2 c =
+    let q = c .before .before .before .before .before .before .before .before in
     let u = c .before .before .put-hex in
     let b = c .before .before .before .bits32 in (
-      hex-stored binary32 8 (c .before .before .before .before .before .before .before .before .before .before .before .args .x) (c .before
-          .before .before .before .before .before .before .before .put-byte .ensures) (b .result) (c .before .before .before .before
+      hex-stored binary32 8 (q .before .before .before .args .x) (q .put-byte .ensures) (b .result) (c .before .before .before .before
           .before .if1
           .left) (b .ensures) (u .ensures),
       omega (arith, u .ensures .next, hex-length 8 (b .result)),

@@ -42,8 +42,9 @@ loop-less c = search needs
 
 loop-again : tie.Need-loop-again Inv-loop μ-loop
 loop-again c =
-    let a = c .before .before .before .before .before .before .before .before .before .args in
-    let q = c .before .before .before .before .before .before .loop in
+    let u = c .before .before .before .before .before .before in
+    let a = u .before .before .before .args in
+    let q = u .loop in
     let p = c .before .before .put-single in
     (omega arith, each-turn single (now (a .xs)) (q .i) (omega arith) (q .inv .1) (p .ensures .0), omega (arith, p .ensures .1, q .inv .2))
 

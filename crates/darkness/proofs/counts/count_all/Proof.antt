@@ -7,7 +7,7 @@ use borrow.Author.Needs.{needs}
 use denote.Ref.{now}
 use Rattle.laws.proofs.Folds.{written-none, written-step}
 use Rattle.laws.specs.Fold.{written}
-use Rattle.darkness.specs.Steps.{readsOf}
+use Rattle.darkness.specs.Inner.{readsOf}
 use Rattle.darkness.proofs.counts.count_all.Statement.{statement}
 use Rattle.darkness.proofs.counts.count_all.Tie as tie
 

@@ -1,7 +1,7 @@
 -- A refusal of the picture stands whatever follows (check-off); else what follows counts (check-on). Assumes nothing.
 use mathlib.Core.Path.{_∙_, sym}
 use borrow.Author.Needs.{needs}
-use Rattle.checks.proofs.Checked.{check-off, check-on}
+use Rattle.picture_checks.proofs.Checked.{check-off, check-on}
 use Rattle.darkness.proofs.refusals.check.Statement.{statement}
 use Rattle.darkness.proofs.refusals.check.Tie as tie
 

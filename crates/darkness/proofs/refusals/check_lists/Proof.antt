@@ -9,7 +9,7 @@ use borrow.Author.Tests.{eq-eqb, eqb-true, le-leb, lt-leb, ne-eqb, not-false, no
 use denote.Ref.{now}
 use Rattle.laws.proofs.Counts.{count-zero}
 use Rattle.levels.specs.Level.{cells}
-use Rattle.darkness.specs.Door.{bad}
+use Rattle.darkness.specs.Door.{isBadBox}
 use Rattle.darkness.proofs.refusals.check_lists.Statement.{statement}
 use Rattle.darkness.proofs.refusals.check_lists.Tie as tie
 
@@ -125,7 +125,7 @@ returns-6 c =
         grid = grid;
         room = omega arith;
         places = omega arith;
-        good = count-zero (bad (a .w) (a .h) (now (a .boxes))) (length (now (a .boxes)) / 4) (eqb-true _ 0 fit);
+        good = count-zero (isBadBox (a .w) (a .h) (now (a .boxes))) (length (now (a .boxes)) / 4) (eqb-true _ 0 fit);
       },
     )
 

@@ -7,7 +7,7 @@ use borrow.Author.Needs.{needs}
 use denote.Ref.{now}
 use Rattle.darkness.proofs.Filled.{ink-at, ink-small, row-to-high, row-to-low, row-to-turn, sized-bounds}
 use Rattle.darkness.specs.Darkness.{inkBit}
-use Rattle.darkness.specs.Steps.{RowTo, cellEnd}
+use Rattle.darkness.specs.Inner.{RowTo, cellEnd}
 use Rattle.darkness.proofs.table.fill_columns.Statement.{statement}
 use Rattle.darkness.proofs.table.fill_columns.Tie as tie
 
@@ -88,13 +88,14 @@ loop-less c = search needs
 
 loop-again : tie.Need-loop-again Inv-loop μ-loop
 loop-again c =
-    let start = c .before .before .before .before .before .before .before .before .before .before .before .before in
+    let q = c .before .before .before .before .before .before in
+    let start = q .before .before .before .before .before .before in
     let a = start .args in
     let at = c .before .before .before .before .before .loop in
     let k = c .before .before .put-count .ensures in
-    let read = c .before .before .before .before .before .before .before .before .threshold-at .ensures in
-    let pixel = c .before .before .before .before .before .before .before .place .ensures .0 in
-    let up = c .before .before .before .before .before .before .place2 .ensures .0 in
+    let read = q .before .before .threshold-at .ensures in
+    let pixel = q .before .place .ensures .0 in
+    let up = q .place2 .ensures .0 in
     let b = sized-bounds (start .pre .0) (start .pre .1 .0 .2) in
     let z : 16 * a .c + (at .i + 1) ≡ 16 * a .c + at .i + 1 = omega arith in (
       rw z

@@ -7,7 +7,7 @@ use borrow.Author.Needs.{needs}
 use denote.Ref.{now}
 use Rattle.darkness.proofs.Filled.{bounds, row-all, row-at, row-begin, row-turn}
 use Rattle.darkness.specs.Darkness.{inkBit}
-use Rattle.darkness.specs.Steps.{RowTo}
+use Rattle.darkness.specs.Inner.{RowTo}
 use Rattle.darkness.proofs.table.fill_row.Statement.{statement}
 use Rattle.darkness.proofs.table.fill_row.Tie as tie
 
@@ -53,9 +53,10 @@ loop-holds c =
 
 fill-cell-requires : tie.Need-fill-cell-requires Inv-loop μ-loop
 fill-cell-requires c κs =
-    let a = c .before .before .before .before .before .before .before .args in
+    let q = c .before .before .before .before .before .before .before in
+    let a = q .args in
     let at = c .before .before .loop in
-    let p = c .before .before .before .before .before .before .before .pre in
+    let p = q .pre in
     let l : 16 * at .c < a .w = omega (arith, c .before .before .before .cells-of .ensures) in (
       record {
         picture = p .0 .picture;

@@ -6,7 +6,7 @@ use borrow.Author.Needs.{needs}
 use denote.Ref.{now}
 use Rattle.darkness.proofs.Filled.{all-rows, bounds, next-row, top-held}
 use Rattle.darkness.specs.Darkness.{inkBit}
-use Rattle.darkness.specs.Steps.{CountedTo}
+use Rattle.darkness.specs.Inner.{CountedTo}
 use Rattle.darkness.proofs.table.fill_table.Statement.{statement}
 use Rattle.darkness.proofs.table.fill_table.Tie as tie
 
@@ -32,9 +32,10 @@ loop-holds c =
 
 fill-row-requires : tie.Need-fill-row-requires Inv-loop μ-loop
 fill-row-requires c κs =
-    let a = c .before .before .before .before .before .before .before .before .before .before .args in
+    let q = c .before .before .before .before .before .before .before .before .before .before in
+    let a = q .args in
     let at = c .before .before .loop in
-    let p = c .before .before .before .before .before .before .before .before .before .before .pre in (
+    let p = q .pre in (
       record {
         picture = p .picture;
         grid = p .grid;

@@ -1,5 +1,4 @@
 -- `doubled::refusals::beyond` meets its contract. Assumes nothing.
-use Prim.Native.Nat.{_≤_, _<_}
 use native.Mathlib.Omega.{arith}
 use Rattle.doubled.proofs.refusals.beyond.Statement.{statement}
 use Rattle.doubled.proofs.refusals.beyond.Tie as tie

@@ -1,9 +1,7 @@
 -- `doubled::refusals::check_hull` meets its contract. Assumes nothing.
 use Rattle.laws.proofs.Bools.{told-true, told-false}
 use borrow.Author.Tests.{le-leb, lt-leb}
-use native.Mathlib.Omega.{arith}
-use mathlib.Core.Path.{_≡_}
-use Rattle.checks.proofs.Checked.{points-in}
+use Rattle.picture_checks.proofs.Checked.{points-in}
 use borrow.Author.Needs.{needs}
 use Rattle.doubled.proofs.refusals.check_hull.Statement.{statement}
 use Rattle.doubled.proofs.refusals.check_hull.Tie as tie

@@ -1,6 +1,6 @@
 -- `doubled::refusals::check_quad` meets its contract. Assumes nothing.
 use Rattle.laws.proofs.Bools.{told-true, told-false}
-use Rattle.checks.proofs.Checked.{points-in}
+use Rattle.picture_checks.proofs.Checked.{points-in}
 use borrow.Author.Needs.{needs}
 use Rattle.doubled.proofs.refusals.check_quad.Statement.{statement}
 use Rattle.doubled.proofs.refusals.check_quad.Tie as tie

@@ -2,7 +2,7 @@
 -- Assumes nothing.
 use lib.ListN.{length}
 use mathlib.Core.Path.{_≡_}
-use Prim.Native.Nat.{_-_, _≤_}
+use Prim.Native.Nat.{_-_}
 use borrow.Author.Needs.{needs}
 use Rattle.drawing.proofs.shapes.square.Statement.{statement}
 use Rattle.drawing.proofs.shapes.square.Tie as tie

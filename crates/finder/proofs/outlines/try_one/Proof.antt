@@ -17,8 +17,9 @@ use Rattle.finder.proofs.outlines.try_one.Tie as tie
 
 region-points-requires : tie.Need-region-points-requires
 region-points-requires c κs =
-    let p = c .before .before .before .before .before .before .before .before .pre in
-    let a = c .before .before .before .before .before .before .before .before .args in
+    let q = c .before .before .before .before .before .before .before .before in
+    let p = q .pre in
+    let a = q .args in
     (photo-sides (now (a .gray)) (a .w) (a .h) (p .0), (p .1 .0, (p .1 .1 .0, p .1 .1 .1 .1 .first)))
 
 mul-attempt : tie.Need-mul-attempt
@@ -36,10 +37,11 @@ slice-aggregate-attempt c =
 
 attempt-requires : tie.Need-attempt-requires
 attempt-requires c κs =
-    let p = c .before .before .before .before .before .before .before .before .before .before .before .before .before .before .before .pre
+    let q = c .before .before .before .before .before .before in
+    let p = q .before .before .before .before .before .before .before .before .before .pre
     in
     let room = p .1 .1 .1 .1 in
-    let o = c .before .before .before .before .before .before .region-points in
+    let o = q .region-points in
     let last = o .last .1 .1 .1 .1 .1 .1 .0 in
     let long : length (take (2 * o .result) last) ≡ 2 * o .result =
     length-take-le (2 * o .result) last (omega (arith, o .ensures .0, o .ensures .1 .1 .same, room .first)) in (
@@ -70,13 +72,12 @@ same-length-4 c = search needs
 
 returns : tie.Need-returns
 returns c =
-    let p = c .before .before .before .before .before .before .before .before .before .before .before .before .before .before .before
-    .before .before .before .before .before .before .before .pre in
-    let a = c .before .before .before .before .before .before .before .before .before .before .before .before .before .before .before
-    .before .before .before .before .before .before .before .args in
+    let q = c .before .before .before .before .before .before in
+    let p = q .before .before .before .before .before .before .before .before .before .before .before .before .before .before .before .before .pre in
+    let a = q .before .before .before .before .before .before .before .before .before .before .before .before .before .before .before .before .args in
     let room = p .1 .1 .1 .1 in
-    let o = c .before .before .before .before .before .before .before .before .before .before .before .before .before .region-points in
-    let r = c .before .before .before .before .before .before .attempt .ensures in
+    let o = q .before .before .before .before .before .before .before .region-points in
+    let r = q .attempt .ensures in
     let last = o .last .1 .1 .1 .1 .1 .1 .0 in
     let long : length (take (2 * o .result) last) ≡ 2 * o .result =
     length-take-le (2 * o .result) last (omega (arith, o .ensures .0, o .ensures .1 .1 .same, room .first)) in

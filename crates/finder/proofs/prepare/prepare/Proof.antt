@@ -53,12 +53,11 @@ same-length-3 c = search needs
 
 returns-2 : tie.Need-returns-2
 returns-2 c =
-    let a = c .before .before .before .before .before .before .before .before .before .before .before .before .before .before
-    .before .before .args in
+    let q = c .before .before .before .before .before .before in
+    let a = q .before .before .before .before .before .before .before .before .before .before .args in
     let l = a .l in
-    let o = c .before .before .before .before .before .before .picture in
-    let z = sym (c .before .before .before .before .before .before .before .before .before .before .before .check .ensures) ∙ c
-    .before .before .before .before .before .before .before .before .before .before .if1 .left in
+    let o = q .picture in
+    let z = sym (q .before .before .before .before .before .check .ensures) ∙ q .before .before .before .before .if1 .left in
     let p = passed (a .w) (a .h) (length (now (a .gray))) (length (now (a .levels))) (length (now (a .labels))) (length (now (a .stack)))
     (l .points) (l .straight) (l .cand) (l .buf) (a .most) z in (
       prepared-given _ _ _ (o .result) (o .ensures .0) (p .grids) z,

@@ -10,14 +10,14 @@ use Rattle.laws.specs.Plane.{plane}
 use Rattle.region_outline.specs.Region.{needOf}
 use Rattle.finder.proofs.Regions.{kept-four, tries-is, worked-none, worked-then, roomy-then}
 use Rattle.finder.proofs.Standing.{best-begin, best-end}
-use Rattle.finder.specs.Find.{tryOf, bestOf}
+use Rattle.finder.specs.Find.{tryOf, bestTrace}
 use Rattle.finder.specs.Inner.{Worked}
 use Rattle.finder.proofs.tries.try_all.Statement.{statement}
 use Rattle.finder.proofs.tries.try_all.Tie as tie
 
 abbrev Inv-loop : tie.InvT-loop
 Inv-loop gray w h levels labels k most points₀ straight₀ cand₀ buf₀ n best₀ i₀ points straight cand buf best i =
-    (i ≤ n) × (best ≡ bestOf (tryOf gray w h most) i)
+    (i ≤ n) × (best ≡ bestTrace (tryOf gray w h most) i)
     × Worked (needOf w h) points₀ points straight₀ straight cand₀ cand buf₀ buf
 
 abbrev μ-loop : tie.MeasureT-loop
@@ -25,8 +25,10 @@ abbrev μ-loop : tie.MeasureT-loop
     n - i
 
 tries-of-requires : tie.Need-tries-of-requires Inv-loop μ-loop
-tries-of-requires c κs = let a = c .before .before .before .before .before .before .before .args in kept-four (plane (a .w) (now (a
-    .gray))) (a .w) (a .h) (a .k) (c .before .before .before .before .before .before .before .pre .1 .1 .0)
+tries-of-requires c κs =
+    let q = c .before .before .before .before .before .before .before in
+    let a = q .args in kept-four (plane (a .w) (now (a
+    .gray))) (a .w) (a .h) (a .k) (q .pre .1 .1 .0)
 
 short-trace-requires : tie.Need-short-trace-requires Inv-loop μ-loop
 short-trace-requires c κs = search needs
@@ -49,8 +51,9 @@ loop-less c = search needs
 
 loop-again : tie.Need-loop-again Inv-loop μ-loop
 loop-again c =
-    let q = c .before .before .before .before .before .before .before .before .before .before .before .before .before .before .loop .inv in
-    let t = c .before .before .before .before .before .before .before .before .try-next .ensures in
+    let u = c .before .before .before .before .before .before .before .before in
+    let q = u .before .before .before .before .before .before .loop .inv in
+    let t = u .try-next .ensures in
     (omega arith, t .0, worked-then (q .2) (t .1))
 
 same-length : tie.Need-same-length Inv-loop μ-loop
@@ -67,8 +70,9 @@ same-length-4 c = c .before .loop .inv .2 .fourth .same
 
 returns : tie.Need-returns Inv-loop μ-loop
 returns c =
-    let p = c .before .before .before .before .before .before .before .before .before .before .before .pre in
-    let a = c .before .before .before .before .before .before .before .before .before .before .before .args in
+    let u = c .before .before .before .before .before .before .before .before .before .before .before in
+    let p = u .pre in
+    let a = u .args in
     let q = c .before .loop in
     let n = c .before .before .before .tries-of in (
       best-end (now (a .gray)) (a .w) (a .h) (a .most) (q .i) (n .result) (q .best) (omega (arith, q .inv .0))

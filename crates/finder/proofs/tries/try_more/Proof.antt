@@ -22,11 +22,10 @@ try-one-requires c κs = let p = c .before .before .before .before .before .befo
 
 better-requires : tie.Need-better-requires
 better-requires c κs =
-    let p = c .before .before .before .before .before .before .before .before .before .before .before .before .before .before .before
-    .before .before .before .before .before .before .before .pre in
-    let a = c .before .before .before .before .before .before .before .before .before .before .before .before .before .before .before
-    .before .before .before .before .before .before .before .args in
-    let t = c .before .before .before .before .before .before .before .before .try-one in
+    let q = c .before .before .before .before .before .before .before .before in
+    let p = q .before .before .before .before .before .before .before .before .before .before .before .before .before .before .pre in
+    let a = q .before .before .before .before .before .before .before .before .before .before .before .before .before .before .args in
+    let t = q .try-one in
     (p .1 .1 .1 .1 .0, subst Few (sym (t .ensures .0)) (attempt-few (now (a .gray)) (a .w) (a .h) (a .most) (p .1 .1 .1 .0) _))
 
 same-length : tie.Need-same-length
@@ -43,12 +42,10 @@ same-length-4 c = search needs
 
 returns-2 : tie.Need-returns-2
 returns-2 c =
-    let a = c .before .before .before .before .before .before .before .before .before .before .before .before .before .before .before
-    .before .before .before .before .before .before .before .before .args in
-    let t = c .before .before .before .before .before .before .before .before .before .try-one in (
-      first-goes (a .best) _ _ (c .before .before .before .before .before .before .before .before .before .before .before .before .before
-          .before .before .is-fixed .ensures) _ _ (c .before .before .before .before .before .before .before .before .before .before .before
-          .before .before .before .if1 .left) (t .ensures .0) (c .better .ensures),
+    let q = c .before .before .before .before .before .before .before .before .before in
+    let a = q .before .before .before .before .before .before .before .before .before .before .before .before .before .before .args in
+    let t = q .try-one in (
+      first-goes (a .best) _ _ (q .before .before .before .before .before .before .is-fixed .ensures) _ _ (q .before .before .before .before .before .if1 .left) (t .ensures .0) (c .better .ensures),
       t .ensures .1,
     )
 

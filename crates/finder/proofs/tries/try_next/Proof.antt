@@ -11,14 +11,16 @@ use Rattle.finder.proofs.tries.try_next.Tie as tie
 
 region-of-requires : tie.Need-region-of-requires
 region-of-requires c κs =
-    let p = c .before .before .before .before .before .before .before .pre in
-    let a = c .before .before .before .before .before .before .before .args in
+    let q = c .before .before .before .before .before .before .before in
+    let p = q .pre in
+    let a = q .args in
     (kept-four (plane (a .w) (now (a .gray))) (a .w) (a .h) (a .k) (p .1 .1 .0), (p .0 .wide .1, p .0 .high .1))
 
 try-one-requires : tie.Need-try-one-requires
 try-one-requires c κs =
-    let p = c .before .before .before .before .before .before .before .before .before .before .before .before .before .pre in
-    let a = c .before .before .before .before .before .before .before .before .before .before .before .before .before .args in
+    let q = c .before .before .before .before .before .before .before .before .before .before .before .before .before in
+    let p = q .pre in
+    let a = q .args in
     let r = c .before .before .before .before .before .region-of in (
       p .0,
       (
@@ -45,14 +47,12 @@ same-length-4 c = search needs
 
 returns : tie.Need-returns
 returns c =
-    let p = c .before .before .before .before .before .before .before .before .before .before .before .before .before .before .before
-    .before .before .before .before .before .before .before .pre in
-    let a = c .before .before .before .before .before .before .before .before .before .before .before .before .before .before .before
-    .before .before .before .before .before .before .before .args in
-    let r = c .before .before .before .before .before .before .before .before .before .before .before .before .before .before .region-of in
-    let t = c .before .before .before .before .before .before .before .before .try-one in (
-      best-first (tryOf (now (a .gray)) (a .w) (a .h) (a .most)) (a .i) _ (c .before .before .before .before .before .before .before
-          .before .before .before .before .before .before .if1 .taken)
+    let q = c .before .before .before .before .before .before .before .before in
+    let p = q .before .before .before .before .before .before .before .before .before .before .before .before .before .before .pre in
+    let a = q .before .before .before .before .before .before .before .before .before .before .before .before .before .before .args in
+    let r = q .before .before .before .before .before .before .region-of in
+    let t = q .try-one in (
+      best-first (tryOf (now (a .gray)) (a .w) (a .h) (a .most)) (a .i) _ (q .before .before .before .before .before .if1 .taken)
           (try-is (now (a .gray)) (a .w) (a .h) (a .most) (a .i) _ _
           (region-tried (plane (a .w) (now (a .gray))) (a .w) (a .h) (a .k) (p .1 .1 .0) (a .i) (r .result) (r .ensures)) (t .ensures .0)),
       t .ensures .1,
@@ -60,8 +60,9 @@ returns c =
 
 try-more-requires : tie.Need-try-more-requires
 try-more-requires c κs =
-    let p = c .before .before .before .before .before .before .before .before .before .before .before .before .before .pre in
-    let a = c .before .before .before .before .before .before .before .before .before .before .before .before .before .args in
+    let q = c .before .before .before .before .before .before .before .before .before .before .before .before .before in
+    let p = q .pre in
+    let a = q .args in
     let r = c .before .before .before .before .before .region-of in (
       p .0,
       (
@@ -91,14 +92,12 @@ same-length-8 c = search needs
 
 returns-2 : tie.Need-returns-2
 returns-2 c =
-    let p = c .before .before .before .before .before .before .before .before .before .before .before .before .before .before .before
-    .before .before .before .before .before .before .before .pre in
-    let a = c .before .before .before .before .before .before .before .before .before .before .before .before .before .before .before
-    .before .before .before .before .before .before .before .args in
-    let r = c .before .before .before .before .before .before .before .before .before .before .before .before .before .before .region-of in
-    let t = c .before .before .before .before .before .before .before .before .try-more in (
-      best-more (tryOf (now (a .gray)) (a .w) (a .h) (a .most)) (a .i) (a .best) _ _ (c .before .before .before .before .before .before
-          .before .before .before .before .before .before .before .if1 .left) (p .1 .1 .1 .1 .0)
+    let q = c .before .before .before .before .before .before .before .before in
+    let p = q .before .before .before .before .before .before .before .before .before .before .before .before .before .before .pre in
+    let a = q .before .before .before .before .before .before .before .before .before .before .before .before .before .before .args in
+    let r = q .before .before .before .before .before .before .region-of in
+    let t = q .try-more in (
+      best-more (tryOf (now (a .gray)) (a .w) (a .h) (a .most)) (a .i) (a .best) _ _ (q .before .before .before .before .before .if1 .left) (p .1 .1 .1 .1 .0)
           (try-is (now (a .gray)) (a .w) (a .h) (a .most) (a .i) _ _
           (region-tried (plane (a .w) (now (a .gray))) (a .w) (a .h) (a .k) (p .1 .1 .0) (a .i) (r .result) (r .ensures)) refl)
           (t .ensures .0),

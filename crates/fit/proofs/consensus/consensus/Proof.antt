@@ -30,12 +30,13 @@ same-length : tie.Need-same-length
 same-length c = search needs
 
 returns-3 : tie.Need-returns-3
-returns-3 c = (
-  supported _ _ _ (c .before .before .before .before .before .before .before .before .before .trials .ensures .0)
-      (c .before .before .before .before .before .before .before .if1 .left) _ (c .before .before .before .before .if2 .left)
-      (c .before .before .refit-middle .ensures .0),
-  c .before .before .refit-middle .ensures .1,
-)
+returns-3 c =
+    let q = c .before .before .before .before .before .before .before in (
+      supported _ _ _ (q .before .before .trials .ensures .0)
+          (q .if1 .left) _ (c .before .before .before .before .if2 .left)
+          (c .before .before .refit-middle .ensures .0),
+      c .before .before .refit-middle .ensures .1,
+    )
 
 pub consensus-spec : {M : Type 1} → statement M
 consensus-spec =

@@ -24,15 +24,16 @@ same-length : tie.Need-same-length
 same-length c = search needs
 
 returns-2 : tie.Need-returns-2
-returns-2 c = (
-  edge-few _ _ _ _ (c .before .before .before .before .before .before .before .edge-of .ensures)
-      (c .before .before .before .before .before .if1 .left) (c .before .before .before .search .ensures) (c .if2 .taken),
-  (
-    kept-past (c .before .before .before .search .ensures)
-        (c .before .before .before .before .before .before .before .before .before .before .before .pre .0),
-    past-none _ _,
-  ),
-)
+returns-2 c =
+    let q = c .before .before .before .before .before .before .before in (
+      edge-few _ _ _ _ (q .edge-of .ensures)
+          (c .before .before .before .before .before .if1 .left) (c .before .before .before .search .ensures) (c .if2 .taken),
+      (
+        kept-past (c .before .before .before .search .ensures)
+            (q .before .before .before .before .pre .0),
+        past-none _ _,
+      ),
+    )
 
 mul-consensus : tie.Need-mul-consensus
 mul-consensus c = search needs
@@ -61,20 +62,20 @@ same-length-3 c = search needs
 
 returns-3 : tie.Need-returns-3
 returns-3 c =
-    let z = c .before .before .before .before .before .before .before .before .search .ensures .few in
-    let w = kept-same (c .before .before .before .before .before .before .before .before .search .ensures)
-    (c .before .before .before .before .before .before .before .before .before .before .before .before .before .before .before .before
+    let q = c .before .before .before .before .before .before .before .before in
+    let z = q .search .ensures .few in
+    let w = kept-same (q .search .ensures)
+    (q .before .before .before .before .before .before .before .before
     .pre .0) in
-    let m = length-take-le (2 * c .before .before .before .before .before .before .before .before .search .result)
-    (c .before .before .before .before .before .before .before .before .search .last .1 .1 .0) (omega arith) in (
-      edge-fit _ _ _ _ (c .before .before .before .before .before .before .before .before .before .before .before .before .edge-of
-          .ensures) (c .before .before .before .before .before .before .before .before .before .before .if1 .left)
-          (c .before .before .before .before .before .before .before .before .search .ensures) _
+    let m = length-take-le (2 * q .search .result)
+    (q .search .last .1 .1 .0) (omega arith) in (
+      edge-fit _ _ _ _ (q .before .before .before .before .edge-of
+          .ensures) (q .before .before .if1 .left)
+          (q .search .ensures) _
           (c .before .before .before .before .before .if2 .left) (c .before .before .consensus .ensures .0),
       (
-        kept-past (c .before .before .before .before .before .before .before .before .search .ensures)
-            (c .before .before .before .before .before .before .before .before .before .before .before .before .before .before .before
-            .before .pre .0),
+        kept-past (q .search .ensures)
+            (q .before .before .before .before .before .before .before .before .pre .0),
         past-more _ (omega arith) (c .before .before .consensus .ensures .1),
       ),
     )

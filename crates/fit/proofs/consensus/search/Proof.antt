@@ -52,10 +52,12 @@ loop-less : tie.Need-loop-less Inv-loop μ-loop
 loop-less c = search needs
 
 loop-again : tie.Need-loop-again Inv-loop μ-loop
-loop-again c = selecting-turn _ _ _ _ _ _ _ _ _ _ _ (c .before .before .before .search-near .ensures) refl refl
-    (c .before .before .before .before .before .before .before .loop-test .taken)
-    (c .before .before .before .before .before .before .before .before .before .before .before .pre .0)
-    (c .before .before .before .before .before .before .before .before .loop .inv) (c .before .before .put .ensures .0)
+loop-again c =
+    let q = c .before .before .before .before .before .before .before in
+    selecting-turn _ _ _ _ _ _ _ _ _ _ _ (c .before .before .before .search-near .ensures) refl refl
+    (q .loop-test .taken)
+    (q .before .before .before .before .pre .0)
+    (q .before .loop .inv) (c .before .before .put .ensures .0)
 
 same-length : tie.Need-same-length Inv-loop μ-loop
 same-length c = search needs

@@ -46,21 +46,25 @@ enum-told-4 c = search needs
 
 returns-4 : tie.Need-returns-4
 unfolding cornersOf
-returns-4 c = simp (
-  c .before .before .before .before .before .before .before .before .before .a .given .1,
-  c .before .before .before .before .before .before .b .given .1,
-  c .before .before .before .c .given .1,
-  c .enum-told4 .given .1,
-)
+returns-4 c =
+    let q = c .before .before .before .before .before .before in
+    simp (
+      q .before .before .before .a .given .1,
+      q .b .given .1,
+      c .before .before .before .c .given .1,
+      c .enum-told4 .given .1,
+    )
 
 returns-5 : tie.Need-returns-5
 unfolding cornersOf
-returns-5 c = simp (
-  c .before .before .before .before .before .before .before .before .before .before .a .given .1,
-  c .before .before .before .before .before .before .before .b .given .1,
-  c .before .before .before .before .c .given .1,
-  c .before .d .given .1,
-)
+returns-5 c =
+    let q = c .before .before .before .before .before .before .before in
+    simp (
+      q .before .before .before .a .given .1,
+      q .b .given .1,
+      c .before .before .before .before .c .given .1,
+      c .before .d .given .1,
+    )
 
 pub corners-of-spec : {M : Type 1} → statement M
 corners-of-spec =

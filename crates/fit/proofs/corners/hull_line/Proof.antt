@@ -21,12 +21,13 @@ same-length : tie.Need-same-length
 same-length c = search needs
 
 returns-2 : tie.Need-returns-2
-returns-2 c = (
-  hull-fit _ _ _ _ (c .before .before .before .before .before .before .before .before .edge-of .ensures) _ _
-      (c .before .before .before .before .before .before .if1 .left) (c .before .before .before .before .max32 .ensures)
-      (c .before .before .refit-middle .ensures .0),
-  c .before .before .refit-middle .ensures .1,
-)
+returns-2 c =
+    let q = c .before .before .before .before .before .before in (
+      hull-fit _ _ _ _ (q .before .before .edge-of .ensures) _ _
+          (q .if1 .left) (c .before .before .before .before .max32 .ensures)
+          (c .before .before .refit-middle .ensures .0),
+      c .before .before .refit-middle .ensures .1,
+    )
 
 pub hull-line-spec : {M : Type 1} → statement M
 hull-line-spec =

@@ -26,30 +26,30 @@ or-quad-requires c κs = search needs
 
 same-length : tie.Need-same-length
 same-length c =
+    let q = c .before .before .before .before .before .before .before .before in
     past-then
-    (past-then (c .before .before .before .before .before .before .before .before .before .before .before .before .before .before .before
-    .before .hull-line .ensures .1)
-    (c .before .before .before .before .before .before .before .before .before .before .before .before .next-hull-line .ensures .1))
-    (past-then (c .before .before .before .before .before .before .before .before .next-hull-line2 .ensures .1)
+    (past-then (q .before .before .before .before .before .before .before .before .hull-line .ensures .1)
+    (q .before .before .before .before .next-hull-line .ensures .1))
+    (past-then (q .next-hull-line2 .ensures .1)
     (c .before .before .before .before .next-hull-line3 .ensures .1)) .same
 
 returns : tie.Need-returns
-returns c = (
-  refined-by _ _ _ _ _ _ _ _
-      (c .before .before .before .before .before .before .before .before .before .before .before .before .before .before .before .before
-      .hull-line .ensures .0)
-      (c .before .before .before .before .before .before .before .before .before .before .before .before .next-hull-line .ensures .0)
-      (c .before .before .before .before .before .before .before .before .next-hull-line2 .ensures .0)
-      (c .before .before .before .before .next-hull-line3 .ensures .0)
-      (c .before .refined-at .ensures)
-      (c .or-quad .ensures),
-  past-then
-      (past-then (c .before .before .before .before .before .before .before .before .before .before .before .before .before .before .before
-      .before .hull-line .ensures .1)
-      (c .before .before .before .before .before .before .before .before .before .before .before .before .next-hull-line .ensures .1))
-      (past-then (c .before .before .before .before .before .before .before .before .next-hull-line2 .ensures .1)
-      (c .before .before .before .before .next-hull-line3 .ensures .1)),
-)
+returns c =
+    let q = c .before .before .before .before .before .before .before .before in (
+      refined-by _ _ _ _ _ _ _ _
+          (q .before .before .before .before .before .before .before .before
+          .hull-line .ensures .0)
+          (q .before .before .before .before .next-hull-line .ensures .0)
+          (q .next-hull-line2 .ensures .0)
+          (c .before .before .before .before .next-hull-line3 .ensures .0)
+          (c .before .refined-at .ensures)
+          (c .or-quad .ensures),
+      past-then
+          (past-then (q .before .before .before .before .before .before .before .before .hull-line .ensures .1)
+          (q .before .before .before .before .next-hull-line .ensures .1))
+          (past-then (q .next-hull-line2 .ensures .1)
+          (c .before .before .before .before .next-hull-line3 .ensures .1)),
+    )
 
 pub refine-quad-spec : {M : Type 1} → statement M
 refine-quad-spec =

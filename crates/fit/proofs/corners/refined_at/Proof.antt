@@ -31,17 +31,19 @@ corners-of-requires : tie.Need-corners-of-requires
 corners-of-requires c κs = search needs
 
 returns : tie.Need-returns
-returns c = simp (
-  c .corners-of .ensures,
-  c .before .near-corner4 .ensures,
-  c .before .before .intersect4 .ensures,
-  c .before .before .before .near-corner3 .ensures,
-  c .before .before .before .before .intersect3 .ensures,
-  c .before .before .before .before .before .near-corner2 .ensures,
-  c .before .before .before .before .before .before .intersect2 .ensures,
-  c .before .before .before .before .before .before .before .near-corner .ensures,
-  c .before .before .before .before .before .before .before .before .intersect .ensures,
-)
+returns c =
+    let q = c .before .before .before .before .before .before in
+    simp (
+      c .corners-of .ensures,
+      c .before .near-corner4 .ensures,
+      c .before .before .intersect4 .ensures,
+      c .before .before .before .near-corner3 .ensures,
+      c .before .before .before .before .intersect3 .ensures,
+      c .before .before .before .before .before .near-corner2 .ensures,
+      q .intersect2 .ensures,
+      q .before .near-corner .ensures,
+      q .before .before .intersect .ensures,
+    )
 
 pub refined-at-spec : {M : Type 1} → statement M
 refined-at-spec =

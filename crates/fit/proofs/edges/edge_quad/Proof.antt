@@ -18,15 +18,14 @@ next-edge-line-requires-2 c κs = search needs
 
 next-edge-line-requires-3 : tie.Need-next-edge-line-requires-3
 next-edge-line-requires-3 c κs =
-    let one = c .before .before .before .before .before .before .before .before .before .before .before .before .before .before .before
-    .before .before .before .before .before .edge-line .ensures .1 in
-    let two = c .before .before .before .before .before .before .before .before .before .before .before .before .before .next-edge-line
+    let q = c .before .before .before .before .before .before in
+    let one = q .before .before .before .before .before .before .before .before .before .before .before .before .before .before .edge-line .ensures .1 in
+    let two = q .before .before .before .before .before .before .before .next-edge-line
     .ensures .1 in
-    let three = c .before .before .before .before .before .before .next-edge-line2 .ensures .1 in
+    let three = q .next-edge-line2 .ensures .1 in
     let cand = past-then (past-then (one .0) (two .0)) (three .0) .same in
     let buf = past-then (past-then (one .1) (two .1)) (three .1) .same in
-    let pre = c .before .before .before .before .before .before .before .before .before .before .before .before .before .before .before
-    .before .before .before .before .before .before .before .before .before .before .before .pre in
+    let pre = q .before .before .before .before .before .before .before .before .before .before .before .before .before .before .before .before .before .before .before .before .pre in
     (omega (arith, pre .0), (omega (arith, pre .1 .0), pre .1 .1))
 
 edges-at-requires : tie.Need-edges-at-requires
@@ -40,11 +39,10 @@ same-length-2 c = search needs
 
 returns : tie.Need-returns
 returns c =
-    let one = c .before .before .before .before .before .before .before .before .before .before .before .before .before .before .before
-    .before .before .before .before .before .before .before .before .before .before .before .edge-line .ensures in
-    let two = c .before .before .before .before .before .before .before .before .before .before .before .before .before .before .before
-    .before .before .before .before .next-edge-line .ensures in
-    let three = c .before .before .before .before .before .before .before .before .before .before .before .before .next-edge-line2 .ensures
+    let q = c .before .before .before .before .before .before .before .before .before .before .before .before in
+    let one = q .before .before .before .before .before .before .before .before .before .before .before .before .before .before .edge-line .ensures in
+    let two = q .before .before .before .before .before .before .before .next-edge-line .ensures in
+    let three = q .next-edge-line2 .ensures
     in
     let four = c .before .before .before .before .before .next-edge-line3 .ensures in (
       edges-by _ _ _ _ _ _ _ (one .0) (two .0) (three .0) (four .0) (c .edges-at .ensures),

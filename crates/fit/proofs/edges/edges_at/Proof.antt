@@ -34,18 +34,20 @@ corners-of-requires : tie.Need-corners-of-requires
 corners-of-requires c κs = search needs
 
 returns : tie.Need-returns
-returns c = simp (
-  c .corners-of .ensures,
-  c .before .keep-corner4 .ensures,
-  c .before .before .intersect4 .ensures,
-  c .before .before .before .keep-corner3 .ensures,
-  c .before .before .before .before .intersect3 .ensures,
-  c .before .before .before .before .before .keep-corner2 .ensures,
-  c .before .before .before .before .before .before .intersect2 .ensures,
-  c .before .before .before .before .before .before .before .keep-corner .ensures,
-  c .before .before .before .before .before .before .before .before .intersect .ensures,
-  c .before .before .before .before .before .before .before .before .before .limit-of .ensures,
-)
+returns c =
+    let q = c .before .before .before .before .before .before in
+    simp (
+      c .corners-of .ensures,
+      c .before .keep-corner4 .ensures,
+      c .before .before .intersect4 .ensures,
+      c .before .before .before .keep-corner3 .ensures,
+      c .before .before .before .before .intersect3 .ensures,
+      c .before .before .before .before .before .keep-corner2 .ensures,
+      q .intersect2 .ensures,
+      q .before .keep-corner .ensures,
+      q .before .before .intersect .ensures,
+      q .before .before .before .limit-of .ensures,
+    )
 
 pub edges-at-spec : {M : Type 1} → statement M
 edges-at-spec =

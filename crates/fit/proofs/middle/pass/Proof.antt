@@ -25,12 +25,13 @@ same-length : tie.Need-same-length
 same-length c = search needs
 
 returns-2 : tie.Need-returns-2
-returns-2 c = (
-  pass-few _ _ _ _ (c .before .before .before .before .before .before .line .given .1)
-      (c .before .before .before .select .ensures) (c .if1 .taken),
-  kept-past (c .before .before .before .select .ensures)
-      (c .before .before .before .before .before .before .before .before .before .before .pre .0),
-)
+returns-2 c =
+    let q = c .before .before .before .before .before .before in (
+      pass-few _ _ _ _ (q .line .given .1)
+          (c .before .before .before .select .ensures) (c .if1 .taken),
+      kept-past (c .before .before .before .select .ensures)
+          (q .before .before .before .before .pre .0),
+    )
 
 mul-tls-line : tie.Need-mul-tls-line
 mul-tls-line c = let z = c .before .before .before .select .ensures .few in omega arith
@@ -56,12 +57,13 @@ same-length-2 : tie.Need-same-length-2
 same-length-2 c = search needs
 
 returns-3 : tie.Need-returns-3
-returns-3 c = (
-  pass-fit _ _ _ _ (c .before .before .before .before .before .before .before .before .line .given .1)
-      (c .before .before .before .before .before .select .ensures) _ (c .before .before .if1 .left) (c .tls-line .ensures),
-  kept-past (c .before .before .before .before .before .select .ensures)
-      (c .before .before .before .before .before .before .before .before .before .before .before .before .pre .0),
-)
+returns-3 c =
+    let q = c .before .before .before .before .before .before .before .before in (
+      pass-fit _ _ _ _ (q .line .given .1)
+          (c .before .before .before .before .before .select .ensures) _ (c .before .before .if1 .left) (c .tls-line .ensures),
+      kept-past (c .before .before .before .before .before .select .ensures)
+          (q .before .before .before .before .pre .0),
+    )
 
 pub pass-spec : {M : Type 1} → statement M
 pass-spec =

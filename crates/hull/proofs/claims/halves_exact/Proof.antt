@@ -1,7 +1,7 @@
 -- `hull::claims::halves_exact`: the theorems are `hull-exact` and `quad-exact`, and those of the whole hull and quad.
 -- Assumes nothing.
 use mathlib.Core.Path.{sym, subst}
-use Rattle.whole.specs.Points.{Pt, Clockwise}
+use Rattle.whole.specs.Points.{Clockwise}
 use Rattle.whole.specs.IsHull.{IsHull}
 use Rattle.whole.proofs.IsHull.{hull-is}
 use Rattle.whole.proofs.Clockwise.{quad-clockwise}

@@ -4,8 +4,8 @@ use native.Mathlib.Omega.{arith}
 use lib.Ieee.{nan}
 use denote.Ref.{now}
 use borrow.Author.Needs.{needs}
+use Rattle.ieee.specs.Constants.{0f}
 use Rattle.laws.proofs.Stores.{getD-any}
-use Rattle.hull.specs.Points.{0f}
 use Rattle.hull.proofs.points.x_at.Statement.{statement}
 use Rattle.hull.proofs.points.x_at.Tie as tie
 

@@ -4,7 +4,7 @@ use native.Mathlib.Omega.{arith}
 use denote.Ref.{now}
 use borrow.Author.Needs.{needs}
 use Rattle.hull.specs.Hull.{crossAt}
-use Rattle.hull.specs.Steps.{keeps}
+use Rattle.hull.specs.Inner.{keeps}
 use Rattle.hull.proofs.Pairs.{kept-yes, kept-no, keeps-under, keeps-over}
 use Rattle.hull.proofs.sides.farther.Statement.{statement}
 use Rattle.hull.proofs.sides.farther.Tie as tie

@@ -6,10 +6,10 @@ use native.Mathlib.Omega.{arith}
 use lib.Ieee.{lt}
 use denote.Ref.{now}
 use borrow.Author.Needs.{needs}
-use Rattle.whole.specs.Wrap.{keep, ipairs}
+use Rattle.whole.specs.Walk.{keep, indexPairs}
 use Rattle.hull.specs.Points.{many}
 use Rattle.hull.specs.Quad.{minusOne}
-use Rattle.hull.specs.Steps.{apart}
+use Rattle.hull.specs.Inner.{apart}
 use Rattle.hull.proofs.Pairs.{pairs-begin, pairs-turn, pairs-end, minus-one}
 use Rattle.hull.proofs.sides.farthest.Statement.{statement}
 use Rattle.hull.proofs.sides.farthest.Tie as tie
@@ -17,7 +17,7 @@ use Rattle.hull.proofs.sides.farthest.Tie as tie
 abbrev Inv-loop : tie.InvT-loop
 Inv-loop p n best₀ i₀ best i =
     (best .a < n) × (best .b < n) × (i ≤ n)
-    × (keep lt (apart p) (best .a, best .b) (best .far) (ipairs i (n - i)) ≡ keep lt (apart p) (0, 0) minusOne (ipairs 0 n))
+    × (keep lt (apart p) (best .a, best .b) (best .far) (indexPairs i (n - i)) ≡ keep lt (apart p) (0, 0) minusOne (indexPairs 0 n))
 
 abbrev μ-loop : tie.MeasureT-loop
 μ-loop p n best₀ i₀ best i = n - i

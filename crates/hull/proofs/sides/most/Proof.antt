@@ -5,11 +5,12 @@ use Prim.Native.Nat.{_-_, _≤_, _<_}
 use native.Mathlib.Omega.{arith}
 use denote.Ref.{now}
 use borrow.Author.Needs.{needs}
+use Rattle.ieee.specs.Constants.{0f}
 use Rattle.whole.specs.Hull.{range}
-use Rattle.whole.specs.Wrap.{keep}
+use Rattle.whole.specs.Walk.{keep}
 use Rattle.hull.specs.Hull.{crossAt}
-use Rattle.hull.specs.Points.{many, 0f}
-use Rattle.hull.specs.Steps.{keeps}
+use Rattle.hull.specs.Points.{many}
+use Rattle.hull.specs.Inner.{keeps}
 use Rattle.hull.proofs.Pairs.{keep-begin, keep-turn, keep-end}
 use Rattle.hull.proofs.sides.most.Statement.{statement}
 use Rattle.hull.proofs.sides.most.Tie as tie

@@ -8,9 +8,9 @@ use lib.Ieee.{lt}
 use denote.Ref.{now}
 use borrow.Author.Needs.{needs}
 use Rattle.whole.specs.Hull.{range}
-use Rattle.whole.specs.Wrap.{keep, with-i}
+use Rattle.whole.specs.Walk.{keep, with-i}
 use Rattle.hull.specs.Points.{many}
-use Rattle.hull.specs.Steps.{apart}
+use Rattle.hull.specs.Inner.{apart}
 use Rattle.hull.proofs.Pairs.{pair-turn, pair-end}
 use Rattle.hull.proofs.sides.widest.Statement.{statement}
 use Rattle.hull.proofs.sides.widest.Tie as tie

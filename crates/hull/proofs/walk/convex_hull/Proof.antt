@@ -71,11 +71,12 @@ same-length c = search needs
 
 returns-2 : tie.Need-returns-2 Inv-loop μ-loop
 returns-2 c =
-    let e = c .before .before .before .before .before .before .before .before .before .before .before in
+    let u = c .before .before .before .before .before .before in
+    let e = u .before .before .before .before .before in
     let p = now (e .args .p) in
-    let q = c .before .before .before .before .before .before .loop in
+    let q = u .loop in
     let less : q .k < many p = c .before .before .before .before .before .loop-test .taken in
-    walked-stop p (c .before .before .before .before .before .before .before .start-of .result) (q .k) (q .cur) (now (e .args .out))
+    walked-stop p (u .before .start-of .result) (q .k) (q .cur) (now (e .args .out))
     (q .out) (q .inv .3) (c .before .before .before .before .x-at .result) (c .before .before .before .y-at .result)
     (c .before .before .before .before .x-at .ensures) (c .before .before .before .y-at .ensures)
     (c .before .before .next-of .result) less (c .before .before .next-of .ensures .0)
@@ -86,14 +87,15 @@ loop-less c = search needs
 
 loop-again : tie.Need-loop-again Inv-loop μ-loop
 loop-again c =
-    let e = c .before .before .before .before .before .before .before .before .before .before .before in
+    let u = c .before .before .before .before .before .before in
+    let e = u .before .before .before .before .before in
     let p = now (e .args .p) in
-    let q = c .before .before .before .before .before .before .loop in
+    let q = u .loop in
     let less : q .k < many p = c .before .before .before .before .before .loop-test .taken in (
       c .before .before .next-of .ensures .1,
       omega arith,
       simp length-set (q .inv .2),
-      walked-turn p (c .before .before .before .before .before .before .before .start-of .result) (q .k) (q .cur) (now (e .args .out))
+      walked-turn p (u .before .start-of .result) (q .k) (q .cur) (now (e .args .out))
           (q .out) (q .inv .3) (c .before .before .before .before .x-at .result) (c .before .before .before .y-at .result)
           (c .before .before .before .before .x-at .ensures) (c .before .before .before .y-at .ensures)
           (c .before .before .next-of .result) less (c .before .before .next-of .ensures .0)

@@ -47,17 +47,19 @@ before32-requires-3 c κs = search needs
 
 returns-3 : tie.Need-returns-3
 unfolding lowerAt
-returns-3 c = rw (
-  ← c .before .before .before .before .before .before .before .before .x-at .ensures,
-  ← c .before .before .before .before .before .before .before .x-at2 .ensures,
-  ← c .before .before .before .before .before .before .before32 .ensures,
-  c .before .before .before .before .before .if1 .left,
-  ← c .before .before .before .before .before322 .ensures,
-  c .before .before .before .if2 .left,
-  ← c .before .before .y-at .ensures,
-  ← c .before .y-at2 .ensures,
-  ← c .before323 .ensures,
-)
+returns-3 c =
+    let q = c .before .before .before .before .before .before .before in
+    rw (
+      ← q .before .x-at .ensures,
+      ← q .x-at2 .ensures,
+      ← c .before .before .before .before .before .before .before32 .ensures,
+      c .before .before .before .before .before .if1 .left,
+      ← c .before .before .before .before .before322 .ensures,
+      c .before .before .before .if2 .left,
+      ← c .before .before .y-at .ensures,
+      ← c .before .y-at2 .ensures,
+      ← c .before323 .ensures,
+    )
 
 pub lower-spec : {M : Type 1} → statement M
 lower-spec =

@@ -7,15 +7,15 @@ use native.Mathlib.Omega.{arith}
 use denote.Ref.{now}
 use borrow.Author.Needs.{needs}
 use Rattle.whole.specs.Hull.{range}
-use Rattle.whole.specs.Wrap.{sel, nxt}
+use Rattle.whole.specs.Walk.{bestWith, nextWith}
 use Rattle.hull.specs.Hull.{hullTests}
 use Rattle.hull.specs.Points.{many}
-use Rattle.hull.proofs.Walks.{sel-begin, sel-turn, sel-end}
+use Rattle.hull.proofs.Walks.{bestWith-begin, bestWith-turn, bestWith-end}
 use Rattle.hull.proofs.walk.next_of.Statement.{statement}
 use Rattle.hull.proofs.walk.next_of.Tie as tie
 
 abbrev Inv-loop : tie.InvT-loop
-Inv-loop p cur n next₀ i₀ next i = (next < n) × (i ≤ n) × (sel (hullTests p) cur next (range i (n - i)) ≡ nxt (hullTests p) n cur)
+Inv-loop p cur n next₀ i₀ next i = (next < n) × (i ≤ n) × (bestWith (hullTests p) cur next (range i (n - i)) ≡ nextWith (hullTests p) n cur)
 
 abbrev μ-loop : tie.MeasureT-loop
 μ-loop p cur n next₀ i₀ next i = n - i
@@ -30,7 +30,7 @@ loop-holds : tie.Need-loop-holds Inv-loop μ-loop
 loop-holds c =
     let e = c .before in
     let p = now (e .args .p) in
-    (mod-lt (e .args .cur + 1) (omega arith), omega arith, sel-begin (hullTests p) (many p) (e .args .cur))
+    (mod-lt (e .args .cur + 1) (omega arith), omega arith, bestWith-begin (hullTests p) (many p) (e .args .cur))
 
 taken-requires : tie.Need-taken-requires Inv-loop μ-loop
 taken-requires c κs = search needs
@@ -48,7 +48,7 @@ loop-again c =
     let q = c .before .before .loop in (
       c .taken .ensures .1,
       omega arith,
-      sel-turn (hullTests p) (many p) (e .args .cur) (q .i) (q .next) (c .taken .result) (omega arith) (c .taken .ensures .0) ∙ q .inv .2,
+      bestWith-turn (hullTests p) (many p) (e .args .cur) (q .i) (q .next) (c .taken .result) (omega arith) (c .taken .ensures .0) ∙ q .inv .2,
     )
 
 returns : tie.Need-returns Inv-loop μ-loop
@@ -56,7 +56,7 @@ returns c =
     let e = c .before .before .before in
     let p = now (e .args .p) in
     let q = c .before .loop in
-    (sel-end (hullTests p) (many p) (e .args .cur) (q .i) (q .next) (omega arith) ∙ q .inv .2, q .inv .0)
+    (bestWith-end (hullTests p) (many p) (e .args .cur) (q .i) (q .next) (omega arith) ∙ q .inv .2, q .inv .0)
 
 pub next-of-spec : {M : Type 1} → statement M
 next-of-spec =

@@ -3,7 +3,7 @@ use mathlib.Core.Path.{_≡_}
 use Prim.Native.Nat.{_≤_, _^_}
 use native.Mathlib.Omega.{arith}
 use lib.Ieee.Nearest.{closest}
-use Rattle.ieee.specs.Patterns.{mant64, dropped, cut64}
+use Rattle.ieee.specs.Inner.{mant64, dropped, cut64}
 use Rattle.ieee.proofs.NarrowSteps.{assembled}
 use borrow.Author.Needs.{needs}
 use Rattle.ieee.proofs.narrowing.any_bits.Statement.{statement}

@@ -6,7 +6,7 @@ use native.Mathlib.Omega.{arith}
 use lib.ListN.{length-take}
 use denote.Ref.{now}
 use Rattle.labels.proofs.InkCells.{box-le, box-step}
-use Rattle.labels.specs.Marks.{below}
+use Rattle.labels.specs.Inner.{below}
 use Rattle.laws.proofs.Planes.{box-none, row-end}
 use Rattle.laws.specs.Plane.{box, plane}
 use Rattle.labels.proofs.cells.box_ink.Statement.{statement}

@@ -54,11 +54,12 @@ box-ink-requires c κs =
 
 returns : tie.Need-returns
 returns c =
-    let p = c .before .before .before .before .before .before .before .before .before in
+    let q = c .before .before .before .before .before .before in
+    let p = q .before .before .before in
     let a = p .args in
     c .box-ink .ensures
     ∙ cell-ink-is (p .pre .0) (a .cx) (a .cy) (p .pre .1 .0) (p .pre .1 .1)
-    (rw (c .before .before .before .before .before .before .cells-of .ensures))
+    (rw (q .cells-of .ensures))
     (sym (c .before .before .if1 .taken) ∙ c .before .before .before .before .span-of .ensures)
     (sym (c .before .if2 .taken) ∙ c .before .before .before .span-of2 .ensures)
 

@@ -6,16 +6,16 @@ use native.Mathlib.Omega.{arith}
 use lib.ListN.{length}
 use borrow.Author.Needs.{needs}
 use denote.Ref.{now}
-use Rattle.labels.specs.Marks.{mark, markAt}
+use Rattle.labels.specs.Inner.{cellMark, cellMarkAt}
 use Rattle.laws.proofs.Drawing.{Drawing, drawing-begin, drawing-end, drawing-on, drawing-row, drawing-x, drawing-y}
 use Rattle.laws.specs.Plane.{plane}
-use Rattle.regions.proofs.Cells.{grid}
-use Rattle.regions.specs.Cells.{cells8}
+use Rattle.labels.proofs.Near.{grid}
+use Rattle.labels.specs.Cells.{cells8}
 use Rattle.labels.proofs.cells.mark_cells.Statement.{statement}
 use Rattle.labels.proofs.cells.mark_cells.Tie as tie
 
 abbrev Inv-loop : tie.InvT-loop
-Inv-loop s w h grid labels₀ cw n k₀ x₀ y₀ labels k x y = Drawing (cells8 w) (cells8 h) (markAt (plane w s) w h) labels₀ labels k x y
+Inv-loop s w h grid labels₀ cw n k₀ x₀ y₀ labels k x y = Drawing (cells8 w) (cells8 h) (cellMarkAt (plane w s) w h) labels₀ labels k x y
 
 abbrev μ-loop : tie.MeasureT-loop
 μ-loop s w h grid labels₀ cw n k₀ x₀ y₀ labels k x y = cells8 w * cells8 h - k
@@ -84,27 +84,29 @@ loop-less : tie.Need-loop-less Inv-loop μ-loop
 loop-less c = omega (arith, inside (c .before .before .before))
 
 loop-again : tie.Need-loop-again Inv-loop μ-loop
-unfolding markAt
+unfolding cellMarkAt
 loop-again c =
-    let p = c .before .before .before .before .before .before .before .before .before .before in
+    let q = c .before .before .before .before .before .before in
+    let p = q .before .before .before .before in
     let a = p .args in
     let room : cells8 (a .w) * cells8 (a .h) ≤ length (now (a .labels)) = rw (mul-comm (cells8 (a .h)) (cells8 (a .w))) at (p .pre .1) in
     drawing-row (c .before .before .before .before .loop .inv) (inside (c .before .before .before)) room
-    (c .before .mark-of .ensures ∙ ap mark (c .before .before .cell-ink .ensures))
-    (c .if1 .taken ∙ c .before .before .before .before .before .before .region-cells .ensures)
+    (c .before .mark-of .ensures ∙ ap cellMark (c .before .before .cell-ink .ensures))
+    (c .if1 .taken ∙ q .region-cells .ensures)
 
 loop-less-2 : tie.Need-loop-less-2 Inv-loop μ-loop
 loop-less-2 c = omega (arith, inside (c .before .before .before))
 
 loop-again-2 : tie.Need-loop-again-2 Inv-loop μ-loop
-unfolding markAt
+unfolding cellMarkAt
 loop-again-2 c =
-    let p = c .before .before .before .before .before .before .before .before .before .before in
+    let q = c .before .before .before .before .before .before in
+    let p = q .before .before .before .before in
     let a = p .args in
     let room : cells8 (a .w) * cells8 (a .h) ≤ length (now (a .labels)) = rw (mul-comm (cells8 (a .h)) (cells8 (a .w))) at (p .pre .1) in
     drawing-on (c .before .before .before .before .loop .inv) (inside (c .before .before .before)) room
-    (c .before .mark-of .ensures ∙ ap mark (c .before .before .cell-ink .ensures))
-    (λ full. c .if1 .left (full ∙ sym (c .before .before .before .before .before .before .region-cells .ensures)))
+    (c .before .mark-of .ensures ∙ ap cellMark (c .before .before .cell-ink .ensures))
+    (λ full. c .if1 .left (full ∙ sym (q .region-cells .ensures)))
 
 same-length : tie.Need-same-length Inv-loop μ-loop
 same-length c = c .before .loop .inv .same

@@ -3,10 +3,9 @@
 use Prim.Native.Nat.{_*_, _+_, _-_}
 use native.Mathlib.Omega.{arith}
 use borrow.Author.Needs.{needs}
-use Rattle.labels.proofs.VisitLaws.{Flow, down-safe, flow-begin, flow-end, flow-full, flow-less, flow-turn}
-use Rattle.labels.proofs.VisitLaws.{or-at, or-full, safe-begin, step-safe}
-use Rattle.labels.specs.Visits.{fills, marks, stops}
-use Rattle.regions.specs.Labels.{near}
+use Rattle.labels.proofs.VisitLaws.{Flow, down-safe, flow-begin, flow-end, flow-full, flow-less, flow-turn, or-at, or-full, safe-begin, step-safe}
+use Rattle.labels.specs.Inner.{fills, marks, stops}
+use Rattle.labels.specs.Labels.{near}
 use Rattle.labels.proofs.groups.flood.Statement.{statement}
 use Rattle.labels.proofs.groups.flood.Tie as tie
 
@@ -36,8 +35,9 @@ returns c = stops (or-full (c .before .before .before .before .before .before .v
 
 loop-holds : tie.Need-loop-holds Inv-loop μ-loop
 loop-holds c =
-    let e = c .before .before .before .before .before .before .before .before .before .before .before .before in
-    let r = c .before .before .before .before .before .before .before .visit in
+    let q = c .before .before .before .before .before .before .before in
+    let e = q .before .before .before .before .before in
+    let r = q .visit in
     flow-begin (step-safe (e .args .v) (λ p. omega (arith, e .pre)) (or-at (r .ensures) (c .before .first .given .1)) (safe-begin _ _))
     (omega (arith, r .kept .0, e .pre))
 
@@ -77,27 +77,26 @@ same-length-4 c = search needs
 
 returns-2 : tie.Need-returns-2 Inv-loop μ-loop
 returns-2 c =
-    let e = c .before .before .before .before .before .before .before .before .before .before .before .before .before .before .before
-    .before .before .before .before .before .before .before .before .before in
-    let q = c .before .before .before .before .before .before .before .before .before .before .before .loop .inv in
-    let r = c .before .before .before .before .before .before .before .before .before .before .before .before .before .before .before
-    .before .before .before .before .visit in
-    let t = or-full (c .before .before .before .before .before .before .visit-near .ensures) (c .enum-told2 .given .1) in
+    let u = c .before .before .before .before .before .before in
+    let e = u .before .before .before .before .before .before .before .before .before .before .before .before .before .before .before .before .before .before in
+    let q = u .before .before .before .before .before .loop .inv in
+    let r = u .before .before .before .before .before .before .before .before .before .before .before .before .before .visit in
+    let t = or-full (u .visit-near .ensures) (c .enum-told2 .given .1) in
     stops (omega (arith, flow-full q t, r .kept .1 .0, e .pre))
 
 loop-less : tie.Need-loop-less Inv-loop μ-loop
 loop-less c =
-    let e = c .before .before .before .before .before .before .before .before .before .before .before .before .before .before .before
-    .before .before .before .before .before .before .before .before .before .before in
-    let t = or-at (c .before .before .before .before .before .before .before .visit-near .ensures) (c .before .next .given .1) in
+    let q = c .before .before .before .before .before .before .before in
+    let e = q .before .before .before .before .before .before .before .before .before .before .before .before .before .before .before .before .before .before in
+    let t = or-at (q .visit-near .ensures) (c .before .next .given .1) in
     flow-less (near (e .args .w)) (λ p. omega (arith, e .pre)) (omega arith) (t .ran)
 
 loop-again : tie.Need-loop-again Inv-loop μ-loop
 loop-again c =
-    let e = c .before .before .before .before .before .before .before .before .before .before .before .before .before .before .before
-    .before .before .before .before .before .before .before .before .before .before in
-    let q = c .before .before .before .before .before .before .before .before .before .before .before .before .loop in
-    let r = c .before .before .before .before .before .before .before .visit-near in
+    let u = c .before .before .before .before .before .before .before in
+    let e = u .before .before .before .before .before .before .before .before .before .before .before .before .before .before .before .before .before .before in
+    let q = u .before .before .before .before .before .loop in
+    let r = u .visit-near in
     let t = or-at (r .ensures) (c .before .next .given .1) in
     flow-turn (λ p. omega (arith, e .pre)) (q .inv) (omega arith) (t .ran) (t .shut) (r .kept .1 .0)
 
@@ -109,8 +108,9 @@ same-length-6 c = search needs
 
 returns-3 : tie.Need-returns-3 Inv-loop μ-loop
 returns-3 c =
-    let e = c .before .before .before .before .before .before .before .before .before .before .before .before .before .before in
-    let r = c .before .before .before .before .before .before .before .before .before .visit in
+    let u = c .before .before .before .before .before .before .before .before .before in
+    let e = u .before .before .before .before .before in
+    let r = u .visit in
     let q = c .before .loop in
     fills (flow-end (or-at (r .ensures) (c .before .before .before .first .given .1)) (q .inv) (omega arith))
 

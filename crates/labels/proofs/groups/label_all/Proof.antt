@@ -53,19 +53,17 @@ same-length-2 c = search needs
 
 returns : tie.Need-returns
 returns c =
-    let p = c .before .before .before .before .before .before .before .before .before .before .before .before .before .before .before
-    .before .before .before .before .before in
+    let q = c .before .before .before .before .before .before in
+    let p = q .before .before .before .before .before .before .before .before .before .before .before .before .before .before in
     let a = p .args in
-    let r = c .before .before .before .before .before .before .before .before .before .before .before .before .before .before .label-cells
+    let r = q .before .before .before .before .before .before .before .before .label-cells
     in
     answers-cleared (a .w) (a .h * a .w)
-    (c .before .before .before .before .before .before .before .before .before .before .before .before .before .before .before .before
-    .before .least .result) (now (a .labels)) (now (a .stack)) (r .last .0)
-    (c .before .before .before .before .before .before .clear .last .0) (r .last .1 .0)
+    (q .before .before .before .before .before .before .before .before .before .before .before .least .result) (now (a .labels)) (now (a .stack)) (r .last .0)
+    (q .clear .last .0) (r .last .1 .0)
     (c .before .before .clear2 .last .0) (p .pre .0)
-    (c .before .before .before .before .before .before .before .before .before .before .before .before .before .before .before .before
-    .before .least .ensures) (r .ensures) (c .before .before .before .before .before .before .before .before .enum-told .given .1)
-    (c .before .before .before .before .before .before .clear .ensures) (c .before .before .clear2 .ensures)
+    (q .before .before .before .before .before .before .before .before .before .before .before .least .ensures) (r .ensures) (q .before .before .enum-told .given .1)
+    (q .clear .ensures) (c .before .before .clear2 .ensures)
     (r .kept .0) (r .kept .1 .0)
 
 same-length-3 : tie.Need-same-length-3
@@ -76,12 +74,13 @@ same-length-4 c = search needs
 
 returns-2 : tie.Need-returns-2
 returns-2 c =
-    let p = c .before .before .before .before .before .before .before .before .before .before .before .before .before in
+    let q = c .before .before .before .before .before .before .before in
+    let p = q .before .before .before .before .before .before in
     let a = p .args in
-    let r = c .before .before .before .before .before .before .before .label-cells in
-    answers-given (a .w) (a .h * a .w) (c .before .before .before .before .before .before .before .before .before .before .least .result)
+    let r = q .label-cells in
+    answers-given (a .w) (a .h * a .w) (q .before .before .before .least .result)
     (now (a .labels)) (now (a .stack)) (r .last .0) (r .last .1 .0) (p .pre .0)
-    (c .before .before .before .before .before .before .before .before .before .before .least .ensures) (r .ensures)
+    (q .before .before .before .least .ensures) (r .ensures)
     (c .before .v .given .1) (r .kept .0) (r .kept .1 .0)
 
 pub label-all-spec : {M : Type 1} → statement M

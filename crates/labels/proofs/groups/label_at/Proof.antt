@@ -2,7 +2,7 @@
 use mathlib.Core.Path.{refl}
 use borrow.Author.Needs.{needs}
 use Rattle.labels.proofs.VisitLaws.{fills-no, fills-yes}
-use Rattle.labels.specs.Labelling.{filled, skipped, stopped}
+use Rattle.labels.specs.Inner.{filled, skipped, stopped}
 use Rattle.labels.proofs.groups.label_at.Statement.{statement}
 use Rattle.labels.proofs.groups.label_at.Tie as tie
 

@@ -3,7 +3,7 @@ use Prim.Native.Nat.{_*_, _-_}
 use native.Mathlib.Omega.{arith}
 use borrow.Author.Needs.{needs}
 use Rattle.labels.proofs.Labellings.{Labelling, labelling-begin, labelling-end, labelling-one, one-full}
-use Rattle.labels.specs.Labelling.{numbered, short}
+use Rattle.labels.specs.Inner.{numbered, short}
 use Rattle.labels.proofs.groups.label_cells.Statement.{statement}
 use Rattle.labels.proofs.groups.label_cells.Tie as tie
 
@@ -35,14 +35,15 @@ same-length-2 c = search needs
 
 returns : tie.Need-returns Inv-loop μ-loop
 returns c =
-    let q = c .before .before .before .before .before .before .before .before .before .before .loop .inv in
-    let t = one-full (c .before .before .before .before .before .before .label-at .ensures) (c .enum-told .given .1) in
+    let u = c .before .before .before .before .before .before in
+    let q = u .before .before .before .before .loop .inv in
+    let t = one-full (u .label-at .ensures) (c .enum-told .given .1) in
     short (omega (
       arith,
       t,
       q .size,
       q .same-stack,
-      c .before .before .before .before .before .before .before .before .before .before .before .before .before .pre,
+      u .before .before .before .before .before .before .before .pre,
     ))
 
 add-s : tie.Need-add-s Inv-loop μ-loop
@@ -53,9 +54,10 @@ loop-less c = omega (arith, c .before .before .before .before .before .before .b
 
 loop-again : tie.Need-loop-again Inv-loop μ-loop
 loop-again c =
-    let e = c .before .before .before .before .before .before .before .before .before .before .before .before .before .before in
-    let q = c .before .before .before .before .before .before .before .before .before .before .before .loop in
-    let r = c .before .before .before .before .before .before .before .label-at in
+    let u = c .before .before .before .before .before .before .before in
+    let e = u .before .before .before .before .before .before .before in
+    let q = u .before .before .before .before .loop in
+    let r = u .label-at in
     labelling-one _ _ _ _ (omega (arith, e .pre)) (omega arith) (omega (arith, q .inv .small, q .inv .size, e .pre)) (q .inv) (r .ensures)
     (c .before .n .given .1) (r .kept .0) (r .kept .1 .0)
 

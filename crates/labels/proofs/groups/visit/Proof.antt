@@ -5,7 +5,7 @@ use lib.ListN.{length}
 use borrow.Author.Needs.{needs}
 use denote.Ref.{now}
 use Rattle.labels.proofs.VisitLaws.{full-short}
-use Rattle.labels.specs.Visits.{at-or, full-or, pass, push}
+use Rattle.labels.specs.Inner.{at-or, full-or, pass, push}
 use Rattle.labels.proofs.groups.visit.Statement.{statement}
 use Rattle.labels.proofs.groups.visit.Tie as tie
 

@@ -7,9 +7,8 @@ use native.Mathlib.Omega.{arith}
 use borrow.Author.Needs.{needs}
 use Rattle.labels.proofs.VisitLaws.{or-at, or-full, run-safe}
 use Rattle.labels.proofs.Window.{Nears, row-near, row-within, rows-begin, rows-end, rows-turn}
-use Rattle.labels.specs.Visits.{at-or, full-or}
-use Rattle.regions.specs.Labels.{near}
-use Rattle.regions.specs.Listed.{left}
+use Rattle.labels.specs.Inner.{at-or, full-or}
+use Rattle.labels.specs.Labels.{near}
 use Rattle.labels.proofs.groups.visit_near.Statement.{statement}
 use Rattle.labels.proofs.groups.visit_near.Tie as tie
 
@@ -48,9 +47,10 @@ loop-holds c =
 
 visit-line-requires : tie.Need-visit-line-requires Inv-loop μ-loop
 visit-line-requires c κs =
-    let e = c .before .before .before .before .before .before .before .before .before .before in
+    let u = c .before .before .before .before .before .before in
+    let e = u .before .before .before .before in
     let q = c .before .before .before .loop in
-    let b = row-within (q .g) (e .args .h) (e .args .w) (c .before .before .before .before .before .before .high .result) (omega arith)
+    let b = row-within (q .g) (e .args .h) (e .args .w) (u .high .result) (omega arith)
     (omega (arith, q .inv .right)) in
     let m = mod-lt (e .args .i) {m = e .args .w} (omega arith) in (
       run-safe (e .args .v) (λ p. omega arith) (λ j. near (e .args .w) (e .args .i) j ≡ true) (q .inv .rows .ran) (e .pre .0),
@@ -71,10 +71,11 @@ same-length-2 c = search needs
 
 returns : tie.Need-returns Inv-loop μ-loop
 returns c =
-    let q = c .before .before .before .before .before .before .before .before .before .before .loop .inv .rows in
+    let u = c .before .before .before .before .before .before in
+    let q = u .before .before .before .before .loop .inv .rows in
     full-or (omega (
       arith,
-      or-full (c .before .before .before .before .before .before .visit-line .ensures) (c .enum-told .given .1),
+      or-full (u .visit-line .ensures) (c .enum-told .given .1),
       q .same,
       q .same-stack,
     ))
@@ -87,10 +88,10 @@ loop-less c = search needs
 
 loop-again : tie.Need-loop-again Inv-loop μ-loop
 loop-again c =
-    let e = c .before .before .before .before .before .before .before .before .before .before .before .before .before .before .before
-    .before .before .before in
-    let q = c .before .before .before .before .before .before .before .before .before .before .before .loop in
-    let r = c .before .before .before .before .before .before .before .visit-line in
+    let u = c .before .before .before .before .before .before .before in
+    let e = u .before .before .before .before .before .before .before .before .before .before .before in
+    let q = u .before .before .before .before .loop in
+    let r = u .visit-line in
     let t = or-at (r .ensures) (c .before .next .given .1) in
     record {
       left = q .inv .left;

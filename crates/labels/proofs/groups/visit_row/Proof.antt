@@ -3,7 +3,7 @@ use Prim.Native.Nat.{_-_}
 use native.Mathlib.Omega.{arith}
 use borrow.Author.Needs.{needs}
 use Rattle.labels.proofs.VisitLaws.{Row, or-at, or-full, row-begin, row-turn, rowed-end, run-safe}
-use Rattle.labels.specs.Visits.{InRow, at-or, full-or}
+use Rattle.labels.specs.Inner.{InRow, at-or, full-or}
 use Rattle.labels.proofs.groups.visit_row.Statement.{statement}
 use Rattle.labels.proofs.groups.visit_row.Tie as tie
 
@@ -36,10 +36,11 @@ same-length-2 c = search needs
 
 returns : tie.Need-returns Inv-loop μ-loop
 returns c =
-    let q = c .before .before .before .before .before .before .before .before .before .before .loop .inv in
+    let u = c .before .before .before .before .before .before in
+    let q = u .before .before .before .before .loop .inv in
     full-or (omega (
       arith,
-      or-full (c .before .before .before .before .before .before .visit .ensures) (c .enum-told .given .1),
+      or-full (u .visit .ensures) (c .enum-told .given .1),
       q .same,
       q .same-stack,
     ))
@@ -52,10 +53,11 @@ loop-less c = search needs
 
 loop-again : tie.Need-loop-again Inv-loop μ-loop
 loop-again c =
-    let e = c .before .before .before .before .before .before .before .before .before .before .before .before .before .before in
-    let q = c .before .before .before .before .before .before .before .before .before .before .before .loop in
+    let u = c .before .before .before .before .before .before .before in
+    let e = u .before .before .before .before .before .before .before in
+    let q = u .before .before .before .before .loop in
     row-turn (λ p. omega (arith, e .pre)) (q .inv) (omega arith) (omega (arith, q .inv .same, e .pre))
-    (or-at (c .before .before .before .before .before .before .before .visit .ensures) (c .before .next .given .1))
+    (or-at (u .visit .ensures) (c .before .next .given .1))
 
 same-length-3 : tie.Need-same-length-3 Inv-loop μ-loop
 same-length-3 c = search needs

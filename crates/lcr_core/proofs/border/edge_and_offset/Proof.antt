@@ -25,8 +25,9 @@ is-negative-requires c κs = search needs
 
 returns : tie.Need-returns
 returns c =
-    let a = c .before .before .before .before .before .before .before in
-    let es = c .before .before .before .before .before .before .side .ensures in
+    let q = c .before .before .before .before .before .before in
+    let a = q .before in
+    let es = q .side .ensures in
     let s = sideOf (a .args .version .0) in
     let l = level-is s (a .args .x) (a .args .y) _ _ _ _
     (depth-given s _ _ (a .args .x) (a .pre .0) es (c .before .before .before .before .before .depth .ensures))
@@ -37,8 +38,9 @@ returns c =
 
 returns-2 : tie.Need-returns-2
 returns-2 c =
-    let a = c .before .before .before .before .before .before .before in
-    let es = c .before .before .before .before .before .before .side .ensures in
+    let q = c .before .before .before .before .before .before in
+    let a = q .before in
+    let es = q .side .ensures in
     let s = sideOf (a .args .version .0) in
     let l = level-is s (a .args .x) (a .args .y) _ _ _ _
     (depth-given s _ _ (a .args .x) (a .pre .0) es (c .before .before .before .before .before .depth .ensures))
@@ -52,8 +54,9 @@ is-negative-requires-2 c κs = search needs
 
 returns-3 : tie.Need-returns-3
 returns-3 c =
-    let a = c .before .before .before .before .before .before .before in
-    let es = c .before .before .before .before .before .before .side .ensures in
+    let q = c .before .before .before .before .before .before in
+    let a = q .before in
+    let es = q .side .ensures in
     let s = sideOf (a .args .version .0) in
     let l = level-is s (a .args .x) (a .args .y) _ _ _ _
     (depth-given s _ _ (a .args .x) (a .pre .0) es (c .before .before .before .before .before .depth .ensures))
@@ -64,8 +67,9 @@ returns-3 c =
 
 returns-4 : tie.Need-returns-4
 returns-4 c =
-    let a = c .before .before .before .before .before .before .before in
-    let es = c .before .before .before .before .before .before .side .ensures in
+    let q = c .before .before .before .before .before .before in
+    let a = q .before in
+    let es = q .side .ensures in
     let s = sideOf (a .args .version .0) in
     let l = level-is s (a .args .x) (a .args .y) _ _ _ _
     (depth-given s _ _ (a .args .x) (a .pre .0) es (c .before .before .before .before .before .depth .ensures))

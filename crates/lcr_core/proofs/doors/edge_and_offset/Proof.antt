@@ -33,9 +33,10 @@ edge-and-offset-requires c κs =
 
 returns-2 : tie.Need-returns-2
 returns-2 c =
-    let a = c .before .before .before .before .before .before .before .before .before .before in
-    let k = version-known (a .args .version) _ _ (c .before .before .before .before .before .before .before .before .before .new .ensures)
-    (c .before .before .before .before .before .before .before .v .given .1) in
+    let q = c .before .before .before .before .before .before .before in
+    let a = q .before .before .before in
+    let k = version-known (a .args .version) _ _ (q .before .before .new .ensures)
+    (q .v .given .1) in
     let ix = range-given (a .args .x) _ _ (a .fits .x) (c .before .before .before .before .before .in-range .ensures)
     (c .before .before .before .before .if1 .taken) in
     let iy = range-given (a .args .y) _ _ (a .fits .y) (c .before .before .before .in-range2 .ensures) (c .before .before .if2 .taken) in
@@ -45,8 +46,9 @@ returns-2 c =
 
 returns-3 : tie.Need-returns-3
 returns-3 c =
-    let a = c .before .before .before .before .before .before .before .before in
-    let k = version-known (a .args .version) _ _ (c .before .before .before .before .before .before .before .new .ensures)
+    let q = c .before .before .before .before .before .before .before in
+    let a = q .before in
+    let k = version-known (a .args .version) _ _ (q .new .ensures)
     (c .before .before .before .before .before .v .given .1) in
     let ix = range-given (a .args .x) _ _ (a .fits .x) (c .before .before .before .in-range .ensures) (c .before .before .if1 .taken) in
     let iy = range-given (a .args .y) _ _ (a .fits .y) (c .before .in-range2 .ensures) (c .if2 .left) in

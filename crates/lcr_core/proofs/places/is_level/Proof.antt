@@ -1,6 +1,5 @@
 -- `lcr_core::places::is_level` meets its contract. Assumes nothing.
 use borrow.Author.Tests.{lt-ltb, le-ltb}
-use Prim.Native.Nat.{_-_}
 use native.Mathlib.Omega.{arith}
 use Rattle.lcr_core.proofs.places.is_level.Statement.{statement}
 use Rattle.lcr_core.proofs.places.is_level.Tie as tie

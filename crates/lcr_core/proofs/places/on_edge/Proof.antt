@@ -1,5 +1,4 @@
 -- `lcr_core::places::on_edge` meets its contract. Assumes nothing.
-use Prim.Native.Nat.{_-_}
 use borrow.Author.Needs.{needs}
 use Rattle.lcr_core.proofs.Cells.{on-edge-0, on-edge-1, on-edge-2, on-edge-3}
 use Rattle.lcr_core.proofs.places.on_edge.Statement.{statement}

@@ -1,5 +1,4 @@
 -- `lcr_core::places::outer_y` meets its contract. Assumes nothing.
-use Prim.Native.Nat.{_-_}
 use native.Mathlib.Omega.{arith}
 use borrow.Author.Needs.{needs}
 use Rattle.lcr_core.proofs.Cells.{outer-y-1, outer-y-2, outer-y-3, outer-y-4}

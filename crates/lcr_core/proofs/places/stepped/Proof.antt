@@ -1,5 +1,4 @@
 -- `lcr_core::places::stepped` meets its contract. Assumes nothing.
-use Prim.Native.Nat.{_-_}
 use native.Mathlib.Omega.{arith}
 use borrow.Author.Needs.{needs}
 use Rattle.lcr_core.proofs.Cells.{inward-1, inward-2, inward-3}

@@ -1,7 +1,7 @@
 -- `lens::bow::add_row` meets its contract, which is its own text. Assumes nothing.
 use mathlib.Core.Path.{refl}
 use borrow.Author.Needs.{needs}
-use Rattle.lens.specs.Bow.{rowOf}
+use Rattle.lens.specs.Bow.{rowAdded}
 use Rattle.lens.proofs.bow.add_row.Statement.{statement}
 use Rattle.lens.proofs.bow.add_row.Tie as tie
 
@@ -9,7 +9,7 @@ add-t5 : tie.Need-add-t5
 add-t5 c = search needs
 
 returns : tie.Need-returns
-unfolding rowOf
+unfolding rowAdded
 returns c = refl
 
 pub add-row-spec : {M : Type 1} → statement M

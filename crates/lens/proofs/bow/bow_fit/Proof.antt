@@ -35,9 +35,11 @@ enum-told-2 : tie.Need-enum-told-2
 enum-told-2 c = search needs
 
 returns-3 : tie.Need-returns-3
-returns-3 c = bow-none-2 _ _ _ (c .before .before .before .before .before .before .before .before .before .normal-of .ensures .0)
-    (c .before .before .before .before .before .before .before .if1 .left) _
-    (c .before .before .before .before .before .before .solve3 .ensures) (c .before .before .before .before .x0 .given .1) _
+returns-3 c =
+    let q = c .before .before .before .before .before .before in
+    bow-none-2 _ _ _ (q .before .before .before .normal-of .ensures .0)
+    (q .before .if1 .left) _
+    (q .solve3 .ensures) (c .before .before .before .before .x0 .given .1) _
     (c .before .before .solve32 .ensures) (c .enum-told2 .given .1)
 
 narrowed-requires : tie.Need-narrowed-requires
@@ -74,19 +76,17 @@ root-requires c κs = search needs
 
 returns-4 : tie.Need-returns-4
 returns-4 c =
-    bow-some _ _ _ (c .before .before .before .before .before .before .before .before .before .before .before .before .before .before
-    .before .before .before .before .before .before .normal-of .ensures .0)
-    (c .before .before .before .before .before .before .before .before .before .before .before .before .before .before .before .before
-    .before .before .if1 .left) _
-    (c .before .before .before .before .before .before .before .before .before .before .before .before .before .before .before .before
-    .before .solve3 .ensures)
-    (c .before .before .before .before .before .before .before .before .before .before .before .before .before .before .before .x0
-    .given .1) _ (c .before .before .before .before .before .before .before .before .before .before .before .before .before .solve32
-    .ensures) (c .before .before .before .before .before .before .before .before .before .before .before .i2 .given .1) _
-    (bow-at _ _ _ _ _ _ _ _ _ _ _ _ _ _ _ (c .before .before .before .before .before .before .before .before .before .narrowed .ensures)
-    (c .before .before .before .before .before .before .before .before .narrowed2 .ensures)
-    (c .before .before .before .before .before .before .before .narrowed3 .ensures)
-    (c .before .before .before .before .before .before .first-fit .ensures) (c .before .before .before .before .before .rss .ensures)
+    let q = c .before .before .before .before .before .before in
+    bow-some _ _ _ (q .before .before .before .before .before .before .before .before .before .before .before .before .before .before .normal-of .ensures .0)
+    (q .before .before .before .before .before .before .before .before .before .before .before .before .if1 .left) _
+    (q .before .before .before .before .before .before .before .before .before .before .before .solve3 .ensures)
+    (q .before .before .before .before .before .before .before .before .before .x0
+    .given .1) _ (q .before .before .before .before .before .before .before .solve32
+    .ensures) (q .before .before .before .before .before .i2 .given .1) _
+    (bow-at _ _ _ _ _ _ _ _ _ _ _ _ _ _ _ (q .before .before .before .narrowed .ensures)
+    (q .before .before .narrowed2 .ensures)
+    (q .before .narrowed3 .ensures)
+    (q .first-fit .ensures) (c .before .before .before .before .before .rss .ensures)
     (c .before .before .positive .ensures) (c .before .narrowed4 .ensures) (c .root .ensures))
 
 pub bow-fit-spec : {M : Type 1} → statement M

@@ -26,10 +26,11 @@ same-length c = search needs
 
 returns : tie.Need-returns
 returns c =
-    let one = c .before .before .before .before .before .before .before .before .before .before .before .before .before .before .before
+    let q = c .before .before .before .before .before .before .before in
+    let one = q .before .before .before .before .before .before .before .before
     .measure-edge .ensures in
-    let two = c .before .before .before .before .before .before .before .before .before .before .before .next-measure .ensures in
-    let three = c .before .before .before .before .before .before .before .next-measure2 .ensures in
+    let two = q .before .before .before .before .next-measure .ensures in
+    let three = q .next-measure2 .ensures in
     let four = c .before .before .before .next-measure3 .ensures in (
       measures-by _ _ _ _ _ _ _ _ (one .0) (two .0) (three .0) (four .0) (c .measures .ensures),
       past-then (past-then (one .1) (two .1)) (past-then (three .1) (four .1)),

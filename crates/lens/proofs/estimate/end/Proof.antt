@@ -1,6 +1,6 @@
 -- `lens::estimate::end` meets its contract, in each case of the pass and the test. Assumes nothing.
 use borrow.Author.Needs.{needs}
-use Rattle.lens.specs.Estimate.{endOf}
+use Rattle.lens.specs.Estimate.{lensEnd}
 use Rattle.lens.proofs.estimate.end.Statement.{statement}
 use Rattle.lens.proofs.estimate.end.Tie as tie
 
@@ -11,18 +11,18 @@ enum-told : tie.Need-enum-told
 enum-told c = search needs
 
 returns : tie.Need-returns
-unfolding endOf
+unfolding lensEnd
 returns c = simp (c .enum-told .given .1)
 
 abs32-requires : tie.Need-abs32-requires
 abs32-requires c κs = search needs
 
 returns-2 : tie.Need-returns-2
-unfolding endOf
+unfolding lensEnd
 returns-2 c = simp (c .before .before .before .p .given .1, ← c .before .abs32 .ensures, c .if1 .taken)
 
 returns-3 : tie.Need-returns-3
-unfolding endOf
+unfolding lensEnd
 returns-3 c = simp (c .before .before .before .p .given .1, ← c .before .abs32 .ensures, c .if1 .left)
 
 pub end-spec : {M : Type 1} → statement M

@@ -39,10 +39,11 @@ same-length-3 c = search needs
 
 returns-2 : tie.Need-returns-2
 returns-2 c =
-    let first = c .before .before .before .before .before .before .before .before .before .before .before .before .before .one-pass
+    let q = c .before .before .before .before .before .before .before .before .before in
+    let first = q .before .before .before .before .one-pass
     .ensures in
     let second = c .before .before .before .before .before .second .ensures in (
-      lens-by _ _ _ _ (first .0) _ _ (c .before .before .before .before .before .before .before .before .before .kappa .given .1)
+      lens-by _ _ _ _ (first .0) _ _ (q .kappa .given .1)
           (second .0) (c .end2 .ensures),
       (second .1 .0, past-then (first .1) (second .1 .1)),
     )

@@ -37,10 +37,11 @@ slice-aggregate-straight-pass c =
 
 straight-pass-requires : tie.Need-straight-pass-requires
 straight-pass-requires c κs =
+    let q = c .before .before .before .before .before .before .before .before .before .before in
     let few = c .before .before .before .before .undistort .ensures .few in
     let long = kept-long (c .before .before .before .before .undistort .ensures)
-    (c .before .before .before .before .before .before .before .before .before .before .pre .0) in
-    let room = c .before .before .before .before .before .before .before .before .before .before .pre .1 in
+    (q .pre .0) in
+    let room = q .pre .1 in
     (omega arith, omega arith)
 
 same-length-2 : tie.Need-same-length-2
@@ -51,14 +52,15 @@ same-length-3 c = search needs
 
 returns-2 : tie.Need-returns-2
 returns-2 c =
-    let kept = c .before .before .before .before .before .before .before .undistort .ensures in
+    let q = c .before .before .before .before .before .before .before in
+    let kept = q .undistort .ensures in
     let few = kept .few in
     let long = kept-long kept
-    (c .before .before .before .before .before .before .before .before .before .before .before .before .before .pre .0) in (
-      second-straight _ _ _ _ _ _ (c .before .before .before .before .before .before .before .before .before .if1 .left) kept
+    (q .before .before .before .before .before .before .pre .0) in (
+      second-straight _ _ _ _ _ _ (q .before .before .if1 .left) kept
           (c .before .before .straight-pass .ensures .0),
       (
-        kept-past kept (c .before .before .before .before .before .before .before .before .before .before .before .before .before .pre .0),
+        kept-past kept (q .before .before .before .before .before .before .pre .0),
         past-more _ (omega arith) (c .before .before .straight-pass .ensures .1),
       ),
     )

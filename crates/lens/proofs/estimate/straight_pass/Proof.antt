@@ -15,11 +15,12 @@ same-length : tie.Need-same-length
 same-length c = search needs
 
 returns : tie.Need-returns
-returns c = (
-  straight-by _ _ _ _ _ _ (c .before .before .before .before .before .before .outer-of .ensures .1 .0)
-      (c .before .before .one-pass .ensures .0),
-  past-then (c .before .before .before .before .before .before .outer-of .ensures .1 .1) (c .before .before .one-pass .ensures .1),
-)
+returns c =
+    let q = c .before .before .before .before .before .before in (
+      straight-by _ _ _ _ _ _ (q .outer-of .ensures .1 .0)
+          (c .before .before .one-pass .ensures .0),
+      past-then (q .outer-of .ensures .1 .1) (c .before .before .one-pass .ensures .1),
+    )
 
 pub straight-pass-spec : {M : Type 1} → statement M
 straight-pass-spec = tie.close (tie.spec outer-of-requires one-pass-requires same-length returns)

@@ -31,14 +31,15 @@ same-length : tie.Need-same-length
 same-length c = search needs
 
 returns-2 : tie.Need-returns-2
-returns-2 c = (
-  measure-few _ _ _ _ _ (c .before .before .before .before .before .before .before .before .before .before .edge-of .ensures)
-      (c .before .before .before .before .before .before .before .before .if1 .left) _
-      (c .before .before .before .before .before .before .before .side-of .ensures)
-      (c .before .before .before .before .before .samples .ensures) (c .if2 .taken),
-  kept-past (c .before .before .before .before .before .samples .ensures)
-      (c .before .before .before .before .before .before .before .before .before .before .before .before .before .pre .0),
-)
+returns-2 c =
+    let q = c .before .before .before .before .before .before .before in (
+      measure-few _ _ _ _ _ (q .before .before .before .edge-of .ensures)
+          (q .before .if1 .left) _
+          (q .side-of .ensures)
+          (c .before .before .before .before .before .samples .ensures) (c .if2 .taken),
+      kept-past (c .before .before .before .before .before .samples .ensures)
+          (q .before .before .before .before .before .before .pre .0),
+    )
 
 mul-two-fits : tie.Need-mul-two-fits
 mul-two-fits c = search needs
@@ -47,17 +48,21 @@ slice-reshare-prefix-two-fits : tie.Need-slice-reshare-prefix-two-fits
 slice-reshare-prefix-two-fits c = search needs
 
 slice-aggregate-two-fits : tie.Need-slice-aggregate-two-fits
-slice-aggregate-two-fits c = let z = c .before .before .before .before .before .before .samples .ensures .few in let w =
-    kept-same (c .before .before .before .before .before .before .samples .ensures)
-    (c .before .before .before .before .before .before .before .before .before .before .before .before .before .before .pre .0) in
+slice-aggregate-two-fits c =
+    let q = c .before .before .before .before .before .before in
+    let z = q .samples .ensures .few in let w =
+    kept-same (q .samples .ensures)
+    (q .before .before .before .before .before .before .before .before .pre .0) in
     sym (length-take-le _ _ (omega arith))
 
 two-fits-requires : tie.Need-two-fits-requires
-two-fits-requires c κs = let z = c .before .before .before .before .before .before .samples .ensures .few in let w =
-    kept-same (c .before .before .before .before .before .before .samples .ensures)
-    (c .before .before .before .before .before .before .before .before .before .before .before .before .before .before .pre .0) in let m =
-    length-take-le (2 * c .before .before .before .before .before .before .samples .result)
-    (c .before .before .before .before .before .before .samples .last .1 .1 .1 .0) (omega arith) in omega arith
+two-fits-requires c κs =
+    let q = c .before .before .before .before .before .before in
+    let z = q .samples .ensures .few in let w =
+    kept-same (q .samples .ensures)
+    (q .before .before .before .before .before .before .before .before .pre .0) in let m =
+    length-take-le (2 * q .samples .result)
+    (q .samples .last .1 .1 .1 .0) (omega arith) in omega arith
 
 bent-requires : tie.Need-bent-requires
 bent-requires c κs = search needs
@@ -67,15 +72,15 @@ same-length-2 c = search needs
 
 returns-3 : tie.Need-returns-3
 returns-3 c =
-    let kept = c .before .before .before .before .before .before .before .before .samples .ensures in
-    let edge = c .before .before .before .before .before .before .before .before .before .before .before .before .before .edge-of .ensures
+    let q = c .before .before .before .before .before .before .before .before in
+    let kept = q .samples .ensures in
+    let edge = q .before .before .before .before .before .edge-of .ensures
     in
-    let long = c .before .before .before .before .before .before .before .before .before .before .before .if1 .left in
-    let side = c .before .before .before .before .before .before .before .before .before .before .side-of .ensures in (
+    let long = q .before .before .before .if1 .left in
+    let side = q .before .before .side-of .ensures in (
       measure-bent _ _ _ _ _ edge long _ side kept _ _ (c .before .before .before .if2 .left) (c .before .two-fits .ensures)
           (c .bent .ensures),
-      kept-past kept (c .before .before .before .before .before .before .before .before .before .before .before .before .before .before
-          .before .before .pre .0),
+      kept-past kept (q .before .before .before .before .before .before .before .before .pre .0),
     )
 
 pub measure-edge-spec : {M : Type 1} → statement M

@@ -79,18 +79,20 @@ loop-less : tie.Need-loop-less Inv-loop μ-loop
 loop-less c = search needs
 
 loop-again : tie.Need-loop-again Inv-loop μ-loop
-loop-again c = selecting-turn _ _ _ _ _ _ _ _ _ _ _
+loop-again c =
+    let q = c .before .before .before .before .before .before .before .before in
+    selecting-turn _ _ _ _ _ _ _ _ _ _ _
     (c .before .before .before .bow-near .ensures
     ∙ ap (λ (t : Float). bowNear
-    (c .before .before .before .before .before .before .before .before .before .before .before .before .before .before .before .args .e) t
+    (q .before .before .before .before .before .before .before .args .e) t
     (c .before .before .before .before .before .outward .result))
-    (c .before .before .before .before .before .before .before .before .along-edge .ensures)
+    (q .along-edge .ensures)
     ∙ ap (bowNear _ _) (c .before .before .before .before .before .outward .ensures))
-    (c .before .before .before .before .before .before .before .before .along-edge .ensures)
+    (q .along-edge .ensures)
     (c .before .before .before .before .before .outward .ensures)
-    (c .before .before .before .before .before .before .before .before .before .before .before .loop-test .taken)
-    (c .before .before .before .before .before .before .before .before .before .before .before .before .before .before .before .pre .0)
-    (c .before .before .before .before .before .before .before .before .before .before .before .before .loop .inv)
+    (q .before .before .before .loop-test .taken)
+    (q .before .before .before .before .before .before .before .pre .0)
+    (q .before .before .before .before .loop .inv)
     (c .before .before .put .ensures .0)
 
 same-length : tie.Need-same-length Inv-loop μ-loop

@@ -19,16 +19,18 @@ mul-quad c =
 
 slice-reshare-prefix-quad : tie.Need-slice-reshare-prefix-quad
 slice-reshare-prefix-quad c =
-    let few = hull-few (c .before .before .before .before .before .before .args .s .now) in
+    let q = c .before .before .before .before .before .before in
+    let few = hull-few (q .args .s .now) in
     let hull = c .before .before .convex-hull .ensures in
-    let same = hull-past _ _ _ _ (hull .0) (hull .1) (c .before .before .before .before .before .before .pre) .same in
+    let same = hull-past _ _ _ _ (hull .0) (hull .1) (q .pre) .same in
     omega arith
 
 slice-aggregate-quad : tie.Need-slice-aggregate-quad
 slice-aggregate-quad c =
-    let few = hull-few (c .before .before .before .before .before .before .before .args .s .now) in
+    let q = c .before .before .before .before .before .before .before in
+    let few = hull-few (q .args .s .now) in
     let hull = c .before .before .before .convex-hull .ensures in
-    let same = hull-past _ _ _ _ (hull .0) (hull .1) (c .before .before .before .before .before .before .before .pre) .same in
+    let same = hull-past _ _ _ _ (hull .0) (hull .1) (q .pre) .same in
     sym (length-take-le _ _ (omega arith))
 
 quad-requires : tie.Need-quad-requires

@@ -1,6 +1,6 @@
 -- `lens::weigh::reach_of` meets its contract: four corners, each of them against the greatest so far. Assumes nothing.
 use borrow.Author.Needs.{needs}
-use Rattle.lens.specs.Estimate.{reachOf}
+use Rattle.lens.specs.Estimate.{cornerReach}
 use Rattle.lens.proofs.weigh.reach_of.Statement.{statement}
 use Rattle.lens.proofs.weigh.reach_of.Tie as tie
 
@@ -29,7 +29,7 @@ max32-requires-4 : tie.Need-max32-requires-4
 max32-requires-4 c κs = search needs
 
 returns : tie.Need-returns
-unfolding reachOf
+unfolding cornerReach
 returns c = cc
 
 pub reach-of-spec : {M : Type 1} → statement M

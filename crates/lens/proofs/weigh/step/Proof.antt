@@ -28,15 +28,17 @@ all-agree-requires c κs = search needs
 
 returns-3 : tie.Need-returns-3
 returns-3 c =
-    step-on _ _ _ _ (c .before .before .before .before .before .before .before .weigh .ensures)
-    (c .before .before .before .before .before .before .if1 .left) _ (c .before .before .before .before .before .is-finite .ensures)
+    let q = c .before .before .before .before .before .before in
+    step-on _ _ _ _ (q .before .weigh .ensures)
+    (q .if1 .left) _ (c .before .before .before .before .before .is-finite .ensures)
     (c .before .before .before .before .if2 .left) _
     (c .before .before .before .summed .ensures) _ (c .before .before .abs32 .ensures) _ (c .before .all-agree .ensures) (c .if3 .taken)
 
 returns-4 : tie.Need-returns-4
 returns-4 c =
-    step-off _ _ _ _ (c .before .before .before .before .before .before .before .weigh .ensures)
-    (c .before .before .before .before .before .before .if1 .left) _ (c .before .before .before .before .before .is-finite .ensures)
+    let q = c .before .before .before .before .before .before in
+    step-off _ _ _ _ (q .before .weigh .ensures)
+    (q .if1 .left) _ (c .before .before .before .before .before .is-finite .ensures)
     (c .before .before .before .before .if2 .left) _
     (c .before .before .before .summed .ensures) _ (c .before .before .abs32 .ensures) _ (c .before .all-agree .ensures) (c .if3 .left)
 

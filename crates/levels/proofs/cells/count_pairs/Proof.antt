@@ -1,6 +1,6 @@
 -- The first i bytes of the row are counted, each in one of the two arrays; the measure is the bytes left. Assumes nothing.
 use mathlib.Core.Path.{_≡_}
-use Prim.Native.Nat.{_+_, _-_, _/_, _<_, _≤_, ℕ}
+use Prim.Native.Nat.{_+_, _-_, _<_, _≤_, ℕ}
 use native.Mathlib.Omega.{arith}
 use lib.ListN.{getD, length}
 use denote.Ref.{now}
@@ -40,8 +40,9 @@ shared-slice-read-count-one-2 c = omega arith
 
 count-one-requires-2 : tie.Need-count-one-requires-2 Inv-loop μ-loop
 count-one-requires-2 c κs =
-    let e = c .before .before .before .before .before .before .before .before in
-    let q = c .before .before .before .before .before .before .loop in
+    let u = c .before .before .before .before .before .before in
+    let e = u .before .before in
+    let q = u .loop in
     (q .inv .2, λ b l. omega (arith, q .inv .3 b l, e .pre .1 .1 b l, countList-le (now (e .args .row)) (q .i) b))
 
 add-i : tie.Need-add-i Inv-loop μ-loop
@@ -52,8 +53,9 @@ loop-less c = omega arith
 
 loop-again : tie.Need-loop-again Inv-loop μ-loop
 loop-again c =
-    let row = now (c .before .before .before .before .before .before .before .before .before .args .row) in
-    let q = c .before .before .before .before .before .before .before .loop in
+    let u = c .before .before .before .before .before .before .before in
+    let row = now (u .before .before .args .row) in
+    let q = u .loop in
     let x = c .before .before .before .count-one .ensures in
     let y = c .count-one2 .ensures in
     let two : q .i + 2 ≡ q .i + 1 + 1 = omega arith in (

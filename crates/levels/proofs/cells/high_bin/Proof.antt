@@ -7,7 +7,7 @@ use borrow.Author.Count.{below-more}
 use denote.Ref.{now}
 use Rattle.laws.proofs.Folds.{fold-zero}
 use Rattle.laws.specs.Fold.{sumTo}
-use Rattle.laws.specs.Plane.{binsOf}
+use Rattle.laws.specs.Plane.{valueAt}
 use Rattle.levels.proofs.Hist.{high-at, high-none, running}
 use Rattle.levels.specs.Level.{cut, fromTop}
 use Rattle.levels.proofs.cells.high_bin.Statement.{statement}
@@ -15,7 +15,7 @@ use Rattle.levels.proofs.cells.high_bin.Tie as tie
 
 abbrev Inv-loop : tie.InvT-loop
 Inv-loop bins cut acc₀ k₀ acc k =
-    (k ≤ 31) × (acc ≤ 256 * k) × (acc ≡ sumTo k (fromTop (binsOf bins))) × ((i : ℕ) → i < k → sumTo (i + 1) (fromTop (binsOf bins)) ≤ cut)
+    (k ≤ 31) × (acc ≤ 256 * k) × (acc ≡ sumTo k (fromTop (valueAt bins))) × ((i : ℕ) → i < k → sumTo (i + 1) (fromTop (valueAt bins)) ≤ cut)
 
 abbrev μ-loop : tie.MeasureT-loop
 μ-loop bins cut acc₀ k₀ acc k = 31 - k
@@ -43,7 +43,7 @@ sub-result c = omega arith
 returns : tie.Need-returns Inv-loop μ-loop
 returns c =
     let at = c .before .before .before in
-    let f = binsOf (now (at .before .args .bins)) in
+    let f = valueAt (now (at .before .args .bins)) in
     let sum = running (fromTop f) (at .loop .k) (at .loop .acc) (at .loop .inv .2) in
     (sym (high-at f (at .before .args .cut) (at .loop .k) (omega arith) (at .loop .inv .3) (omega arith)), omega arith)
 
@@ -56,7 +56,7 @@ loop-less c = omega arith
 loop-again : tie.Need-loop-again Inv-loop μ-loop
 loop-again c =
     let at = c .before .before .before in
-    let f = fromTop (binsOf (now (at .before .args .bins))) in
+    let f = fromTop (valueAt (now (at .before .args .bins))) in
     let sum = running f (at .loop .k) (at .loop .acc) (at .loop .inv .2) in (
       omega arith,
       omega (arith, at .before .pre (31 - at .loop .k) (omega arith)),
@@ -67,7 +67,7 @@ loop-again c =
 returns-2 : tie.Need-returns-2 Inv-loop μ-loop
 returns-2 c =
     let at = c .before in
-    (sym (high-none (binsOf (now (at .before .args .bins))) (at .before .args .cut) (λ i l. at .loop .inv .3 i (omega arith))), omega arith)
+    (sym (high-none (valueAt (now (at .before .args .bins))) (at .before .args .cut) (λ i l. at .loop .inv .3 i (omega arith))), omega arith)
 
 pub high-bin-spec : {M : Type 1} → statement M
 high-bin-spec =

@@ -7,7 +7,7 @@ use borrow.Author.Count.{below-more}
 use denote.Ref.{now}
 use Rattle.laws.proofs.Folds.{fold-zero}
 use Rattle.laws.specs.Fold.{sumTo}
-use Rattle.laws.specs.Plane.{binsOf}
+use Rattle.laws.specs.Plane.{valueAt}
 use Rattle.levels.proofs.Hist.{low-at, low-none, running}
 use Rattle.levels.specs.Level.{cut}
 use Rattle.levels.proofs.cells.low_bin.Statement.{statement}
@@ -15,7 +15,7 @@ use Rattle.levels.proofs.cells.low_bin.Tie as tie
 
 abbrev Inv-loop : tie.InvT-loop
 Inv-loop bins cut acc₀ b₀ acc b =
-    (b ≤ 31) × (acc ≤ 256 * b) × (acc ≡ sumTo b (binsOf bins)) × ((i : ℕ) → i < b → sumTo (i + 1) (binsOf bins) ≤ cut)
+    (b ≤ 31) × (acc ≤ 256 * b) × (acc ≡ sumTo b (valueAt bins)) × ((i : ℕ) → i < b → sumTo (i + 1) (valueAt bins) ≤ cut)
 
 abbrev μ-loop : tie.MeasureT-loop
 μ-loop bins cut acc₀ b₀ acc b = 31 - b
@@ -37,7 +37,7 @@ add-acc c =
 returns : tie.Need-returns Inv-loop μ-loop
 returns c =
     let at = c .before .before .before in
-    let f = binsOf (now (at .before .args .bins)) in
+    let f = valueAt (now (at .before .args .bins)) in
     let sum = running f (at .loop .b) (at .loop .acc) (at .loop .inv .2) in
     (sym (low-at f (at .before .args .cut) (at .loop .b) (omega arith) (at .loop .inv .3) (omega arith)), omega arith)
 
@@ -50,7 +50,7 @@ loop-less c = omega arith
 loop-again : tie.Need-loop-again Inv-loop μ-loop
 loop-again c =
     let at = c .before .before .before in
-    let f = binsOf (now (at .before .args .bins)) in
+    let f = valueAt (now (at .before .args .bins)) in
     let sum = running f (at .loop .b) (at .loop .acc) (at .loop .inv .2) in (
       omega arith,
       omega (arith, at .before .pre (at .loop .b) (omega arith)),
@@ -61,7 +61,7 @@ loop-again c =
 returns-2 : tie.Need-returns-2 Inv-loop μ-loop
 returns-2 c =
     let at = c .before in
-    (sym (low-none (binsOf (now (at .before .args .bins))) (at .before .args .cut) (λ i l. at .loop .inv .3 i (omega arith))), omega arith)
+    (sym (low-none (valueAt (now (at .before .args .bins))) (at .before .args .cut) (λ i l. at .loop .inv .3 i (omega arith))), omega arith)
 
 pub low-bin-spec : {M : Type 1} → statement M
 low-bin-spec =

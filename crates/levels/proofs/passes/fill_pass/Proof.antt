@@ -10,7 +10,7 @@ use Rattle.laws.proofs.Drawing.{Drawing, drawing-begin, drawing-end, drawing-on
 use Rattle.laws.proofs.Writes.{small-step}
 use Rattle.laws.specs.Plane.{plane}
 use Rattle.levels.specs.Level.{fillAt, west}
-use Rattle.levels.specs.Steps.{Bytes}
+use Rattle.levels.specs.Inner.{Bytes}
 use Rattle.levels.proofs.Fill.{west-first, west-next}
 use Rattle.levels.proofs.passes.fill_pass.Statement.{statement}
 use Rattle.levels.proofs.passes.fill_pass.Tie as tie

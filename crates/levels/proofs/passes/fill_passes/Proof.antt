@@ -28,8 +28,9 @@ mul-narrow c = omega arith
 
 narrow-requires : tie.Need-narrow-requires Inv-loop μ-loop
 narrow-requires c κs =
-    let f = c .before .before .before .before .before .before .before .before .loop .inv in
-    let p = c .before .before .before .before .before .before .before .before .before .before .before .pre in
+    let q = c .before .before .before .before .before .before .before .before in
+    let f = q .loop .inv in
+    let p = q .before .before .before .pre in
     let fill = c .before .before .before .before .fill-pass in
     ((rw (fill .kept .1 .0, f .past .same) (p .1 .room), rw (f .same) (p .0 .room)), fill .ensures .1)
 
@@ -41,10 +42,11 @@ loop-less c = omega arith
 
 loop-again : tie.Need-loop-again Inv-loop μ-loop
 loop-again c =
-    let f = c .before .before .before .before .before .before .before .before .before .before .before .loop .inv in
-    let fill = c .before .before .before .before .before .before .before .fill-pass in
+    let q = c .before .before .before .before .before .before .before in
+    let f = q .before .before .before .before .loop .inv in
+    let fill = q .fill-pass in
     let back = c .before .before .narrow in
-    filling-turn f (c .before .before .before .before .before .before .before .before .before .before .loop-test .taken) (fill .ensures .0)
+    filling-turn f (q .before .before .before .loop-test .taken) (fill .ensures .0)
     (back .ensures) (back .kept .1 .0) (fill .kept .1 .0)
 
 same-length : tie.Need-same-length Inv-loop μ-loop

@@ -6,12 +6,12 @@ use lib.ListN.{length, length-set}
 use denote.Ref.{now}
 use Rattle.laws.proofs.Folds.{written-none, written-step}
 use Rattle.laws.specs.Fold.{written}
-use Rattle.laws.specs.Plane.{binsOf}
+use Rattle.laws.specs.Plane.{valueAt}
 use Rattle.levels.proofs.passes.narrow.Statement.{statement}
 use Rattle.levels.proofs.passes.narrow.Tie as tie
 
 abbrev Inv-loop : tie.InvT-loop
-Inv-loop src dst₀ n k₀ dst k = (k ≤ n) × (length dst ≡ length dst₀) × (dst ≡ written k (binsOf src) dst₀)
+Inv-loop src dst₀ n k₀ dst k = (k ≤ n) × (length dst ≡ length dst₀) × (dst ≡ written k (valueAt src) dst₀)
 
 abbrev μ-loop : tie.MeasureT-loop
 μ-loop src dst₀ n k₀ dst k = n - k
@@ -45,7 +45,7 @@ loop-again c =
     let a = at .before .args in (
       omega arith,
       simp length-set (at .loop .inv .1),
-      written-step (at .loop .k) (binsOf (now (a .src))) (now (a .dst)) (at .loop .inv .2) refl (omega arith),
+      written-step (at .loop .k) (valueAt (now (a .src))) (now (a .dst)) (at .loop .inv .2) refl (omega arith),
     )
 
 same-length : tie.Need-same-length Inv-loop μ-loop

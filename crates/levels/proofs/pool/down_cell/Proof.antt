@@ -6,12 +6,12 @@ use denote.Ref.{now}
 use Rattle.laws.proofs.Planes.{place-lt}
 use Rattle.laws.specs.Plane.{plane}
 use Rattle.levels.proofs.Pools.{column-more, column-none}
-use Rattle.levels.specs.Steps.{column, down}
+use Rattle.levels.specs.Inner.{columnExtreme, pooledDown}
 use Rattle.levels.proofs.pool.down_cell.Statement.{statement}
 use Rattle.levels.proofs.pool.down_cell.Tie as tie
 
 abbrev Inv-loop : tie.InvT-loop
-Inv-loop g w h x y most y0 n m₀ j₀ m j = (j ≤ n) × (m ≡ column most (plane w g) x y0 j)
+Inv-loop g w h x y most y0 n m₀ j₀ m j = (j ≤ n) × (m ≡ columnExtreme most (plane w g) x y0 j)
 
 abbrev μ-loop : tie.MeasureT-loop
 μ-loop g w h x y most y0 n m₀ j₀ m j = n - j
@@ -72,7 +72,7 @@ loop-again c =
     (omega arith, c .join8 .ensures ∙ rw (column-more, at .loop .inv .1))
 
 returns : tie.Need-returns Inv-loop μ-loop
-unfolding down
+unfolding pooledDown
 returns c =
     let at = c .before in
     let k = at .before .before .before in

@@ -6,13 +6,13 @@ use lib.ListN.{length}
 use denote.Ref.{now}
 use Rattle.laws.proofs.Folds.{fold-suc, fold-zero}
 use Rattle.laws.specs.Fold.{fold}
-use Rattle.laws.specs.Plane.{binsOf}
-use Rattle.levels.specs.Steps.{joined, unit}
+use Rattle.laws.specs.Plane.{valueAt}
+use Rattle.levels.specs.Inner.{poolStep, unit}
 use Rattle.levels.proofs.pool.join_row.Statement.{statement}
 use Rattle.levels.proofs.pool.join_row.Tie as tie
 
 abbrev Inv-loop : tie.InvT-loop
-Inv-loop row most r₀ i₀ r i = (i ≤ length row) × (r ≡ fold (joined most) (unit most) i (binsOf row))
+Inv-loop row most r₀ i₀ r i = (i ≤ length row) × (r ≡ fold (poolStep most) (unit most) i (valueAt row))
 
 abbrev μ-loop : tie.MeasureT-loop
 μ-loop row most r₀ i₀ r i = length row - i

@@ -6,7 +6,7 @@ use denote.Ref.{now}
 use Rattle.laws.proofs.Past.{past-written}
 use Rattle.laws.specs.Plane.{plane, rowwise}
 use Rattle.levels.proofs.Pools.{pooled-drawn}
-use Rattle.levels.specs.Steps.{across, down}
+use Rattle.levels.specs.Inner.{pooledAcross, pooledDown}
 use Rattle.levels.proofs.pool.pool.Statement.{statement}
 use Rattle.levels.proofs.pool.pool.Tie as tie
 
@@ -24,14 +24,15 @@ same-length-2 c = search needs
 
 returns : tie.Need-returns
 returns c =
-    let down = c .before .before .pool-down in
-    let over = c .before .before .before .before .before .before .before .pool-across in
-    let a = c .before .before .before .before .before .before .before .before .before .before .before .before .args in (
-      pooled-drawn (a .most) (a .w) (a .h) (now (a .g)) (now (a .mid)) (over .last .1 .0) (down .last .1 .0) (over .ensures)
-          (down .ensures .0),
+    let q = c .before .before .before .before .before .before .before in
+    let pooledDown = c .before .before .pool-down in
+    let over = q .pool-across in
+    let a = q .before .before .before .before .before .args in (
+      pooled-drawn (a .most) (a .w) (a .h) (now (a .g)) (now (a .mid)) (over .last .1 .0) (pooledDown .last .1 .0) (over .ensures)
+          (pooledDown .ensures .0),
       (
-        down .ensures .1,
-        past-written (a .w * a .h) (rowwise (a .w) (across (a .most) (a .w) (plane (a .w) (now (a .g))))) (now (a .mid)) (omega arith)
+        pooledDown .ensures .1,
+        past-written (a .w * a .h) (rowwise (a .w) (pooledAcross (a .most) (a .w) (plane (a .w) (now (a .g))))) (now (a .mid)) (omega arith)
             (over .ensures),
       ),
     )

@@ -3,12 +3,12 @@ use Prim.Native.Nat.{_*_, _-_}
 use native.Mathlib.Omega.{arith}
 use Rattle.laws.proofs.Drawing.{Drawing, drawing-begin, drawing-end, drawing-on, drawing-row, drawing-x, drawing-y}
 use Rattle.laws.specs.Plane.{plane}
-use Rattle.levels.specs.Steps.{across}
+use Rattle.levels.specs.Inner.{pooledAcross}
 use Rattle.levels.proofs.pool.pool_across.Statement.{statement}
 use Rattle.levels.proofs.pool.pool_across.Tie as tie
 
 abbrev Inv-loop : tie.InvT-loop
-Inv-loop src dst₀ w h most n k₀ x₀ y₀ dst k x y = Drawing w h (across most w (plane w src)) dst₀ dst k x y
+Inv-loop src dst₀ w h most n k₀ x₀ y₀ dst k x y = Drawing w h (pooledAcross most w (plane w src)) dst₀ dst k x y
 
 abbrev μ-loop : tie.MeasureT-loop
 μ-loop src dst₀ w h most n k₀ x₀ y₀ dst k x y = w * h - k

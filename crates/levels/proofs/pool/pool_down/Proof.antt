@@ -5,12 +5,12 @@ use borrow.Author.Needs.{needs}
 use Rattle.laws.proofs.Drawing.{Drawing, drawing-begin, drawing-end, drawing-on, drawing-row, drawing-x, drawing-y}
 use Rattle.laws.proofs.Writes.{small-step}
 use Rattle.laws.specs.Plane.{plane}
-use Rattle.levels.specs.Steps.{Bytes, down}
+use Rattle.levels.specs.Inner.{Bytes, pooledDown}
 use Rattle.levels.proofs.pool.pool_down.Statement.{statement}
 use Rattle.levels.proofs.pool.pool_down.Tie as tie
 
 abbrev Inv-loop : tie.InvT-loop
-Inv-loop src dst₀ w h most n k₀ x₀ y₀ dst k x y = (Drawing w h (down most h (plane w src)) dst₀ dst k x y) × Bytes k dst
+Inv-loop src dst₀ w h most n k₀ x₀ y₀ dst k x y = (Drawing w h (pooledDown most h (plane w src)) dst₀ dst k x y) × Bytes k dst
 
 abbrev μ-loop : tie.MeasureT-loop
 μ-loop src dst₀ w h most n k₀ x₀ y₀ dst k x y = w * h - k

@@ -3,7 +3,6 @@ use mathlib.Core.Bool.{false, true}
 use mathlib.Core.List.{List, _++_}
 use mathlib.Core.Path.{_∙_, ap}
 use Prim.Native.Nat.{_*_, ℕ}
-use native.Mathlib.Omega.{arith}
 use borrow.Author.Needs.{needs}
 use denote.Ref.{now}
 use Rattle.laws.proofs.Past.{past-written}
@@ -11,7 +10,7 @@ use Rattle.laws.specs.Fold.{tab}
 use Rattle.laws.specs.Plane.{plane, rowwise}
 use Rattle.levels.proofs.Pools.{pairwise-drawn}
 use Rattle.levels.specs.Level.{sharp}
-use Rattle.levels.specs.Steps.{pooled}
+use Rattle.levels.specs.Inner.{pooled}
 use Rattle.levels.proofs.pool.sharp.Statement.{statement}
 use Rattle.levels.proofs.pool.sharp.Tie as tie
 
@@ -20,7 +19,8 @@ pool-requires c κs = search needs
 
 pool-requires-2 : tie.Need-pool-requires-2
 pool-requires-2 c κs =
-    let p = c .before .before .before .before .before .before .before .before .before .before .before .before .pre in (
+    let q = c .before .before .before .before .before .before in
+    let p = q .before .before .before .before .before .before .pre in (
       p .1 .0,
       (
         p .1 .1 .1 .1,
@@ -28,7 +28,7 @@ pool-requires-2 c κs =
           wide = p .1 .1 .0 .wide;
           high = p .1 .1 .0 .high;
           room = rw
-              (c .before .before .before .before .before .before .pool .kept .1 .0) (p .1 .1 .0 .room);
+              (q .pool .kept .1 .0) (p .1 .1 .0 .room);
         },
       ),
     )
@@ -50,12 +50,11 @@ same-length-3 c = search needs
 
 returns : tie.Need-returns
 returns c =
-    let p = c .before .before .before .before .before .before .before .before .before .before .before .before .before .before .before
-    .before .before .before .before .before .before .before .before in
+    let q = c .before .before .before .before .before .before .before .before .before .before in
+    let p = q .before .before .before .before .before .before .before .before .before .before .before .before .before in
     let a = p .args in
-    let darks = c .before .before .before .before .before .before .before .before .before .before .before .before .before .before .before
-    .before .before .pool in
-    let lights = c .before .before .before .before .before .before .before .before .before .before .pool2 in
+    let darks = q .before .before .before .before .before .before .before .pool in
+    let lights = q .pool2 in
     let n = a .w * a .h in (
       c .before .before .thresholds .ensures
           ∙ pairwise-drawn (a .w) (a .h) (now (a .darks)) (now (a .lights)) (now (a .darks)) (now (a .lights)) (darks .last .0)

@@ -6,7 +6,7 @@ use lib.ListN.{length, length-set}
 use denote.Ref.{now}
 use Rattle.laws.proofs.Folds.{written-none, written-step}
 use Rattle.laws.specs.Fold.{written}
-use Rattle.levels.specs.Steps.{pairwise}
+use Rattle.levels.specs.Inner.{pairwise}
 use Rattle.levels.proofs.pool.thresholds.Statement.{statement}
 use Rattle.levels.proofs.pool.thresholds.Tie as tie
 

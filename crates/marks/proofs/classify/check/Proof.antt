@@ -1,6 +1,5 @@
 -- `check` makes the three checks in order; each early return is one arm of `classifyChecks`. Assumes nothing.
 use mathlib.Core.Path.{sym, ap, _∙_}
-use Prim.Native.Nat.{_-_}
 use borrow.Author.Tests.{eq-eqb, ne-eqb}
 use borrow.Author.Needs.{needs}
 use Rattle.lcr_core.proofs.DoorLaws.{version-known, version-refused}
@@ -27,8 +26,9 @@ positions-requires c κs = search needs
 
 returns-2 : tie.Need-returns-2
 returns-2 c =
-    let a = c .before .before .before .before .before .before .before .args in
-    let k = version-known (a .version) _ _ (c .before .before .before .before .before .before .new .ensures)
+    let q = c .before .before .before .before .before .before in
+    let a = q .before .args in
+    let k = version-known (a .version) _ _ (q .new .ensures)
     (c .before .before .before .before .v .given .1) in
     let n = c .before .before .positions .ensures ∙ ap positionsOf (k .1) in
     rw (
@@ -39,8 +39,9 @@ returns-2 c =
 
 returns-3 : tie.Need-returns-3
 returns-3 c =
-    let a = c .before .before .before .before .before .before .before .args in
-    let k = version-known (a .version) _ _ (c .before .before .before .before .before .before .new .ensures)
+    let q = c .before .before .before .before .before .before in
+    let a = q .before .args in
+    let k = version-known (a .version) _ _ (q .new .ensures)
     (c .before .before .before .before .v .given .1) in
     let n = c .before .before .positions .ensures ∙ ap positionsOf (k .1) in
     rw (

@@ -1,6 +1,5 @@
 -- `classify` writes the marks where the checks pass, and nothing where one refuses. Assumes nothing.
 use mathlib.Core.Path.{refl, sym, _∙_}
-use Prim.Native.Nat.{_-_}
 use native.Mathlib.Omega.{arith}
 use lib.ListN.{length}
 use borrow.Author.Needs.{needs}

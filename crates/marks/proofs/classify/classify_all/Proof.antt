@@ -27,14 +27,15 @@ slice-aggregate-light-all c = search needs
 
 light-all-requires : tie.Need-light-all-requires
 light-all-requires c κs =
-    let a = c .before .before .before .before .before .before .before .before .before .before in (
+    let q = c .before .before .before .before .before .before in
+    let a = q .before .before .before .before in (
       a .pre .0,
       (
         a .pre .1,
         (
           around-is (a .args .lumas .now) (c .before .before .before .gather2 .last .1 .1 .1 .1 .0) _
               (c .before .before .before .gather2 .ensures),
-          c .before .before .before .before .before .before .gather .ensures .many,
+          q .gather .ensures .many,
         ),
       ),
     )

@@ -30,10 +30,11 @@ shared-slice-read-keep c = search needs
 
 keep-requires : tie.Need-keep-requires Inv-loop μ-loop
 keep-requires c κs =
+    let q = c .before .before .before .before .before .before .before in
     let at = c .before .before .before .before .loop in
-    let g = gathered-room (c .before .before .before .before .before .before .before .args .lumas .now) (at .around) (at .j) (at .r)
+    let g = gathered-room (q .args .lumas .now) (at .around) (at .j) (at .r)
     (at .inv .2) in
-    let f = c .before .before .before .before .before .before .before .pre .0 .2 in
+    let f = q .pre .0 .2 in
     omega arith
 
 add-j : tie.Need-add-j Inv-loop μ-loop
@@ -44,8 +45,9 @@ loop-less c = search needs
 
 loop-again : tie.Need-loop-again Inv-loop μ-loop
 loop-again c =
-    let a = c .before .before .before .before .before .before .before .before .before .before .args in
-    let at = c .before .before .before .before .before .before .before .loop in
+    let q = c .before .before .before .before .before .before .before in
+    let a = q .before .before .before .args in
+    let at = q .loop in
     let l : length (c .before .before .keep .last .0) ≡ length (at .around) = c .before .before .keep .kept .0 in (
       omega arith,
       l ∙ at .inv .1,

@@ -76,8 +76,9 @@ loop-less c = search needs
 
 loop-again : tie.Need-loop-again Inv-loop μ-loop
 loop-again c =
-    let a = c .before .before .before .before .before .before .before .before .before .before in
-    let at = c .before .before .before .before .before .before .loop in
+    let q = c .before .before .before .before .before .before in
+    let a = q .before .before .before .before in
+    let at = q .loop in
     lighting-turn (a .args .lumas .now) (a .args .around .now) (at .marks) (at .lo) (at .hi) (at .p) (c .before .passed .result)
     (c .passed2 .result) (c .before .before .is-light .result) (omega arith) (a .pre .1 .1 .0) (c .before .before .is-light .ensures)
     (c .before .passed .ensures) (c .passed2 .ensures) (at .inv)

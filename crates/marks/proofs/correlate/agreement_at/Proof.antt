@@ -58,12 +58,13 @@ loop-less c = omega arith
 
 loop-again : tie.Need-loop-again Inv-loop μ-loop
 loop-again c =
-    let a = c .before .before .before .before .before .before .before .before .before .before in
+    let q = c .before .before .before .before .before .before .before in
+    let a = q .before .before .before in
     let at = c .before .before .before .before .before .loop in
     counting-turn (a .args .marks .now) (a .args .seq .now) (a .args .version .0) (a .args .r) (a .args .reversed)
-    (c .before .before .before .before .before .before .before .positions .result) (at .at) (at .count) (at .i)
+    (q .positions .result) (at .at) (at .count) (at .i)
     (c .next-place .result) (c .before .one-if-same .result)
-    (c .before .before .before .before .before .before .before .positions .ensures) (a .pre .1 .1 .0) (omega arith)
+    (q .positions .ensures) (a .pre .1 .1 .0) (omega arith)
     (c .next-place .ensures .0) (c .before .one-if-same .ensures .0)
     (c .next-place .ensures .1) (c .before .one-if-same .ensures .1) (at .inv)
 

@@ -1,5 +1,4 @@
 -- `best_pose` puts the first greatest count, its score and its pose together. Assumes nothing.
-use Prim.Native.Nat.{_-_}
 use borrow.Author.Needs.{needs}
 use Rattle.marks.proofs.Answers.{best-is}
 use Rattle.marks.proofs.correlate.best_pose.Statement.{statement}

@@ -1,6 +1,6 @@
 -- `correlate` refuses by 8, then by 11, and answers the best pose and its counts otherwise. Assumes nothing.
 use mathlib.Core.Path.{refl, sym, ap, _∙_}
-use Prim.Native.Nat.{_-_, ℕ}
+use Prim.Native.Nat.{ℕ}
 use lib.ListN.{length}
 use borrow.Author.Tests.{eq-eqb, ne-eqb}
 use borrow.Author.Needs.{needs}
@@ -38,8 +38,9 @@ best-pose-requires c κs =
 
 returns-2 : tie.Need-returns-2
 returns-2 c =
-    let a = c .before .before .before .before .before .before .before .before .args in
-    let k = version-known (a .version) _ _ (c .before .before .before .before .before .before .new .ensures)
+    let q = c .before .before .before .before .before .before in
+    let a = q .before .before .args in
+    let k = version-known (a .version) _ _ (q .new .ensures)
     (c .before .before .before .before .v .given .1) in
     let n = c .before .before .positions .ensures ∙ ap positionsOf (k .1) in (
       rw (k .0, eq-eqb (length (a .marks .now)) (positionsOf (a .version)) (c .before .if1 .taken ∙ n))

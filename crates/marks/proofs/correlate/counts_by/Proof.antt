@@ -36,9 +36,10 @@ agreement-at-requires-8 c κs = let p =
 
 returns : tie.Need-returns
 returns c =
+    let q = c .before .before .before .before .before .before in
     eight-same _ _ _ _ _ _ _ _ _ _ _ _ _ _ _ _
-    (c .before .before .before .before .before .before .before .agreement-at .ensures)
-    (c .before .before .before .before .before .before .agreement-at2 .ensures)
+    (q .before .agreement-at .ensures)
+    (q .agreement-at2 .ensures)
     (c .before .before .before .before .before .agreement-at3 .ensures)
     (c .before .before .before .before .agreement-at4 .ensures)
     (c .before .before .before .agreement-at5 .ensures)

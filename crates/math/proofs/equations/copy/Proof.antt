@@ -5,19 +5,19 @@ use Prim.Native.Nat.{ℕ, _<_, _-_}
 use lib.ListN.{length, length-set}
 use lib.Ieee.{nan}
 use borrow.Author.Needs.{needs}
-use Rattle.math.specs.Lists.{at}
+use Rattle.math.specs.Lists.{numberAt}
 use Rattle.laws.proofs.Steps.{filled-step, filled-none, filled-copy}
 use Rattle.math.proofs.equations.copy.Statement.{statement}
 use Rattle.math.proofs.equations.copy.Tie as tie
 
 abbrev Inv-loop : tie.InvT-loop
-Inv-loop to₀ from i₀ to i = (length to ≡ length to₀) × ((x : ℕ) → x < i → at to x ≡ at from x)
+Inv-loop to₀ from i₀ to i = (length to ≡ length to₀) × ((x : ℕ) → x < i → numberAt to x ≡ numberAt from x)
 
 abbrev μ-loop : tie.MeasureT-loop
 μ-loop to₀ from i₀ to i = length from - i
 
 loop-holds : tie.Need-loop-holds Inv-loop μ-loop
-loop-holds c = (refl, filled-none nan (λ (x : ℕ). at (c .args .from .now) x) (c .args .to .now))
+loop-holds c = (refl, filled-none nan (λ (x : ℕ). numberAt (c .args .from .now) x) (c .args .to .now))
 
 mul-to : tie.Need-mul-to Inv-loop μ-loop
 mul-to c = search needs
@@ -43,7 +43,7 @@ loop-again c =
     let s = a .before .args in
     let h : a .loop .i < length (a .loop .to) = search needs in (
       simp length-set (a .loop .inv .0),
-      filled-step nan (λ (x : ℕ). at (s .from .now) x) (a .loop .to) (a .loop .i) (at (s .from .now) (a .loop .i)) h
+      filled-step nan (λ (x : ℕ). numberAt (s .from .now) x) (a .loop .to) (a .loop .i) (numberAt (s .from .now) (a .loop .i)) h
           (a .loop .inv .1) refl,
     )
 

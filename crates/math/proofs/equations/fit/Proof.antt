@@ -26,10 +26,10 @@ nudge-requires c κs =
 
 run-requires : tie.Need-run-requires
 run-requires c κs =
+    let q = c .before .before .before .before .before .before .before .before .before .before in
     let g = c .before .before .before .before in
-    let k = c .before .before .before .before .before .before .before .before .before .before in
-    let s = c .before .before .before .before .before .before .before .before .before .before .before .before .before .before .before
-    .before .before in
+    let k = q in
+    let s = q .before .before .before .before .before .before .before in
     let u = ap length (s .pre .1 .0) ∙ length-replicate (s .args .n * s .args .n) (ofBits binary64 0) in
     let w = ap length (s .pre .1 .1 .0) ∙ length-replicate (s .args .n) (ofBits binary64 0) in
     (s .pre .0, (g .nudge .kept .0 ∙ k .add-rows .kept .0 ∙ u, k .add-rows .kept .1 .0 ∙ w))

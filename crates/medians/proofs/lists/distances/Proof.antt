@@ -5,7 +5,7 @@ use Prim.Native.Nat.{ℕ, _<_, _-_}
 use lib.ListN.{length, length-set}
 use lib.Ieee.{nan}
 use borrow.Author.Needs.{needs}
-use Rattle.math.specs.Lists.{at}
+use Rattle.math.specs.Lists.{numberAt}
 use Rattle.medians.specs.Median.{away}
 use Rattle.laws.proofs.Steps.{filled-step, filled-none}
 use Rattle.medians.proofs.Usable.{filled-away}
@@ -13,7 +13,7 @@ use Rattle.medians.proofs.lists.distances.Statement.{statement}
 use Rattle.medians.proofs.lists.distances.Tie as tie
 
 abbrev Inv-loop : tie.InvT-loop
-Inv-loop to₀ from c i₀ to i = (length to ≡ length to₀) × ((x : ℕ) → x < i → at to x ≡ away c (at from x))
+Inv-loop to₀ from c i₀ to i = (length to ≡ length to₀) × ((x : ℕ) → x < i → numberAt to x ≡ away c (numberAt from x))
 
 abbrev μ-loop : tie.MeasureT-loop
 μ-loop to₀ from c i₀ to i = length from - i
@@ -21,7 +21,7 @@ abbrev μ-loop : tie.MeasureT-loop
 loop-holds : tie.Need-loop-holds Inv-loop μ-loop
 loop-holds c =
     let s = c .before .before .args in
-    (refl, filled-none nan (λ (x : ℕ). away (s .c) (at (s .from .now) x)) (s .to .now))
+    (refl, filled-none nan (λ (x : ℕ). away (s .c) (numberAt (s .from .now) x)) (s .to .now))
 
 mul-distance : tie.Need-mul-distance Inv-loop μ-loop
 mul-distance c = search needs
@@ -50,7 +50,7 @@ loop-again c =
     let s = a .before .before .before .args in
     let h : a .loop .i < length (a .loop .to) = search needs in (
       simp length-set (a .loop .inv .0),
-      filled-step nan (λ (x : ℕ). away (s .c) (at (s .from .now) x)) (a .loop .to) (a .loop .i) (c .distance .result) h (a .loop .inv .1)
+      filled-step nan (λ (x : ℕ). away (s .c) (numberAt (s .from .now) x)) (a .loop .to) (a .loop .i) (c .distance .result) h (a .loop .inv .1)
           (c .distance .ensures),
     )
 

@@ -1,8 +1,8 @@
 -- `medians::select::down` meets its contract.
 -- Invariant: all from e up to the start are above p, and some place before e is not. Measure: e. Assumes nothing.
 use Rattle.medians.proofs.Partition.{none-between, passed-less, floor-on}
-use Rattle.medians.specs.Select.{Floor}
-use Rattle.math.specs.Lists.{at}
+use Rattle.medians.specs.Inner.{Floor}
+use Rattle.math.specs.Lists.{numberAt}
 use borrow.Author.Needs.{needs}
 use lib.Ieee.{lt}
 use native.Mathlib.Omega.{arith}
@@ -13,13 +13,13 @@ use Rattle.medians.proofs.select.down.Statement.{statement}
 use Rattle.medians.proofs.select.down.Tie as tie
 
 abbrev Inv-loop : tie.InvT-loop
-Inv-loop v from p e₀ e = (e ≤ from) × Floor v e p × ((x : ℕ) → e ≤ x → x < from → lt p (at v x) ≡ true)
+Inv-loop v from p e₀ e = (e ≤ from) × Floor v e p × ((x : ℕ) → e ≤ x → x < from → lt p (numberAt v x) ≡ true)
 
 abbrev μ-loop : tie.MeasureT-loop
 μ-loop v from p e₀ e = e
 
 loop-holds : tie.Need-loop-holds Inv-loop μ-loop
-loop-holds c = (search needs, c .pre .1, none-between (λ (x : ℕ). lt (c .args .p) (at (c .args .v .now) x) ≡ true) _)
+loop-holds c = (search needs, c .pre .1, none-between (λ (x : ℕ). lt (c .args .p) (numberAt (c .args .v .now) x) ≡ true) _)
 
 sub-if1 : tie.Need-sub-if1 Inv-loop μ-loop
 sub-if1 c = search needs
@@ -43,7 +43,7 @@ loop-again c =
     let z = l .inv .1 .before in (
       search needs,
       floor-on _ _ _ (l .inv .1) (c .if1 .taken),
-      passed-less (λ (x : ℕ). lt (s .p) (at (s .v .now) x) ≡ true) _ _ (omega arith) (l .inv .2) (c .if1 .taken),
+      passed-less (λ (x : ℕ). lt (s .p) (numberAt (s .v .now) x) ≡ true) _ _ (omega arith) (l .inv .2) (c .if1 .taken),
     )
 
 returns : tie.Need-returns Inv-loop μ-loop

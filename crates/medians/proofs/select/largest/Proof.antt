@@ -4,7 +4,7 @@ use mathlib.Core.Path.{_≡_, subst}
 use Prim.Native.Nat.{ℕ, _≤_, _<_, _-_}
 use native.Mathlib.Omega.{arith}
 use borrow.Author.Needs.{needs}
-use Rattle.medians.specs.Select.{Largest}
+use Rattle.medians.specs.Inner.{Largest}
 use Rattle.medians.proofs.Statistics.{largest-begin, largest-step}
 use Rattle.medians.proofs.select.largest.Statement.{statement}
 use Rattle.medians.proofs.select.largest.Tie as tie

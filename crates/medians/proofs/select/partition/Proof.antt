@@ -6,7 +6,7 @@ use Prim.Native.Nat.{_<_, _-_, _/_}
 use lib.ListN.{length}
 use borrow.Author.Needs.{needs}
 use Rattle.medians.specs.Median.{SameValues}
-use Rattle.medians.specs.Select.{Parting}
+use Rattle.medians.specs.Inner.{Parting}
 use Rattle.medians.proofs.Partition.{part-begin, part-end}
 use Rattle.medians.proofs.select.partition.Statement.{statement}
 use Rattle.medians.proofs.select.partition.Tie as tie

@@ -1,7 +1,7 @@
 -- `medians::select::turn` meets its contract: both walks, then an exchange where they have not met. Assumes nothing.
 use mathlib.Core.Path.{sym, subst}
 use Prim.Native.Nat.{_-_, _+_}
-use Rattle.medians.specs.Select.{Turned}
+use Rattle.medians.specs.Inner.{Turned}
 use Rattle.medians.proofs.Partition.{parting-stop, parting-floor, turn-stop, turn-swap}
 use borrow.Author.Needs.{needs}
 use Rattle.medians.proofs.select.turn.Statement.{statement}

@@ -1,8 +1,8 @@
 -- `medians::select::up` meets its contract.
 -- Invariant: all from the start up to i are below p, and some place from i on is not. Measure: places left. Assumes nothing.
 use Rattle.medians.proofs.Partition.{none-between, passed-more, stop-on}
-use Rattle.medians.specs.Select.{Stop}
-use Rattle.math.specs.Lists.{at}
+use Rattle.medians.specs.Inner.{Stop}
+use Rattle.math.specs.Lists.{numberAt}
 use borrow.Author.Needs.{needs}
 use lib.Ieee.{lt}
 use lib.ListN.{length}
@@ -13,13 +13,13 @@ use Rattle.medians.proofs.select.up.Statement.{statement}
 use Rattle.medians.proofs.select.up.Tie as tie
 
 abbrev Inv-loop : tie.InvT-loop
-Inv-loop v from p i₀ i = (from ≤ i) × Stop v i p × ((x : ℕ) → from ≤ x → x < i → lt (at v x) p ≡ true)
+Inv-loop v from p i₀ i = (from ≤ i) × Stop v i p × ((x : ℕ) → from ≤ x → x < i → lt (numberAt v x) p ≡ true)
 
 abbrev μ-loop : tie.MeasureT-loop
 μ-loop v from p i₀ i = length v - i
 
 loop-holds : tie.Need-loop-holds Inv-loop μ-loop
-loop-holds c = (search needs, c .pre, none-between (λ (x : ℕ). lt (at (c .args .v .now) x) (c .args .p) ≡ true) _)
+loop-holds c = (search needs, c .pre, none-between (λ (x : ℕ). lt (numberAt (c .args .v .now) x) (c .args .p) ≡ true) _)
 
 mul-if1 : tie.Need-mul-if1 Inv-loop μ-loop
 mul-if1 c = search needs
@@ -39,7 +39,7 @@ loop-again c =
     let s = c .before .before .before .args in (
       search needs,
       stop-on _ _ _ (l .inv .1) (c .if1 .taken),
-      passed-more (λ (x : ℕ). lt (at (s .v .now) x) (s .p) ≡ true) _ _ (l .inv .2) (c .if1 .taken),
+      passed-more (λ (x : ℕ). lt (numberAt (s .v .now) x) (s .p) ≡ true) _ _ (l .inv .2) (c .if1 .taken),
     )
 
 returns : tie.Need-returns Inv-loop μ-loop

@@ -3,7 +3,7 @@ use Prim.Native.Nat.{_+_, _/_}
 use native.Mathlib.Omega.{arith}
 use denote.Ref.{now}
 use borrow.Author.Needs.{needs}
-use Rattle.outline.specs.Scan.{cutOf}
+use Rattle.outline.specs.Inner.{cutOf}
 use Rattle.outline.proofs.Cuts.{small-mul, region-at, level-at}
 use Rattle.outline.proofs.cells.cut_at.Statement.{statement}
 use Rattle.outline.proofs.cells.cut_at.Tie as tie

@@ -6,23 +6,23 @@ use native.Mathlib.Omega.{arith}
 use denote.Ref.{now}
 use borrow.Author.Needs.{needs}
 use Rattle.boundary.specs.Boundary.{memberAt, columnsFrom}
-use Rattle.outline.specs.Scan.{Wrote}
+use Rattle.outline.specs.Inner.{Wrote}
 use Rattle.outline.proofs.Writes.{strip-begin, strip-more, room-strip, wrote-length}
 use Rattle.outline.proofs.columns.all_columns.Statement.{statement}
 use Rattle.outline.proofs.columns.all_columns.Tie as tie
 
 abbrev Inv-loop : tie.InvT-loop
-Inv-loop s levels labels want w h x0 n y0 m out₀ at to₀ i₀ out to i =
-    (i ≤ n) × Wrote at (columnsFrom 4 (memberAt want w s levels labels) y0 m x0 i) out₀ out to
+Inv-loop s levels labels want run w h x0 n y0 m out₀ at to₀ i₀ out to i =
+    (i ≤ n) × Wrote at (columnsFrom run (memberAt want w s levels labels) y0 m x0 i) out₀ out to
 
 abbrev μ-loop : tie.MeasureT-loop
-μ-loop s levels labels want w h x0 n y0 m out₀ at to₀ i₀ out to i = n - i
+μ-loop s levels labels want run w h x0 n y0 m out₀ at to₀ i₀ out to i = n - i
 
 loop-holds : tie.Need-loop-holds Inv-loop μ-loop
 loop-holds c =
     let a = c .before .before .before .before .args in (
       omega arith,
-      strip-begin (memberAt (a .want) (a .w) (now (a .s)) (now (a .levels)) (now (a .labels))) (a .y0) (a .m) (a .x0)
+      strip-begin (a .run) (memberAt (a .want) (a .w) (now (a .s)) (now (a .levels)) (now (a .labels))) (a .y0) (a .m) (a .x0)
           (a .at) (now (a .out)),
     )
 
@@ -32,8 +32,8 @@ sub-strip-width c = search needs
 strip-width-requires : tie.Need-strip-width-requires Inv-loop μ-loop
 strip-width-requires c κs = search needs
 
-add-strip : tie.Need-add-strip Inv-loop μ-loop
-add-strip c = search needs
+add-x : tie.Need-add-x Inv-loop μ-loop
+add-x c = search needs
 
 strip-requires : tie.Need-strip-requires Inv-loop μ-loop
 strip-requires c κs =
@@ -46,9 +46,12 @@ strip-requires c κs =
       (
         record { bytes = e .pre .1 .0 .bytes; across = omega arith; down = e .pre .1 .0 .down; some = e .pre .1 .0 .some },
         (
-          wide .ensures .1,
-          wide .ensures .2,
-          room-strip p (a .y0) (a .m) (a .x0) (q .i) (wide .result) (a .n) (q .inv .1) (omega arith) (e .pre .1 .1),
+          (
+            wide .ensures .1,
+            wide .ensures .2,
+            room-strip (a .run) p (a .y0) (a .m) (a .x0) (q .i) (wide .result) (a .n) (q .inv .1) (omega arith) (e .pre .1 .1 .0),
+          ),
+          e .pre .1 .1 .1,
         ),
       ),
     )
@@ -61,11 +64,12 @@ loop-less c = search needs
 
 loop-again : tie.Need-loop-again Inv-loop μ-loop
 loop-again c =
-    let a = c .before .before .before .before .before .before .before .before .before .before .before .args in
-    let q = c .before .before .before .before .before .before .loop in
+    let u = c .before .before .before .before .before .before in
+    let a = u .before .before .before .before .before .args in
+    let q = u .loop in
     let wide = c .before .before .before .before .strip-width in
     let p = memberAt (a .want) (a .w) (now (a .s)) (now (a .levels)) (now (a .labels)) in
-    (omega arith, strip-more p (a .y0) (a .m) (a .x0) (q .i) (wide .result) (q .inv .1) (c .before .before .strip .ensures))
+    (omega arith, strip-more (a .run) p (a .y0) (a .m) (a .x0) (q .i) (wide .result) (q .inv .1) (c .before .before .strip .ensures))
 
 same-length : tie.Need-same-length Inv-loop μ-loop
 same-length c = wrote-length (c .before .loop .inv .1)
@@ -86,7 +90,7 @@ all-columns-spec =
     loop-holds
     sub-strip-width
     strip-width-requires
-    add-strip
+    add-x
     strip-requires
     add-i
     loop-less

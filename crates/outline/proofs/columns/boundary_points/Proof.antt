@@ -25,8 +25,8 @@ all-columns-requires c κs =
     let r = c .before .before .before .all-rows .ensures in (
       e .pre .0,
       (
-        record { bytes = e .pre .1 .0; across = omega arith; down = omega arith; some = omega arith },
-        omega (arith, wrote-next r, wrote-length r, rows-le 4 p (a .x0) (a .x1 - a .x0) (a .y0) (a .y1 - a .y0), e .pre .1 .5),
+        record { bytes = e .pre .1 .0 .0; across = omega arith; down = omega arith; some = omega arith },
+        omega (arith, wrote-next r, wrote-length r, rows-le (a .run) p (a .x0) (a .x1 - a .x0) (a .y0) (a .y1 - a .y0), e .pre .1 .0 .5),
       ),
     )
 

@@ -3,7 +3,7 @@ use native.Mathlib.Omega.{arith}
 use denote.Ref.{now}
 use borrow.Author.Needs.{needs}
 use borrow.Author.Tests.{le-leb, lt-leb}
-use Rattle.outline.specs.Scan.{columnFound}
+use Rattle.outline.specs.Inner.{columnFound}
 use Rattle.outline.proofs.Writes.{wrote-none}
 use Rattle.outline.proofs.columns.put_column.Statement.{statement}
 use Rattle.outline.proofs.columns.put_column.Tie as tie
@@ -12,7 +12,7 @@ returns : tie.Need-returns
 unfolding columnFound
 returns c =
     let a = c .before .before .args in
-    rw (lt-leb 4 (a .d) (omega arith)) (wrote-none (a .to) (now (a .out)))
+    rw (lt-leb (a .run) (a .d) (omega arith)) (wrote-none (a .to) (now (a .out)))
 
 mul-put-two : tie.Need-mul-put-two
 mul-put-two c = search needs
@@ -54,7 +54,7 @@ returns-2 : tie.Need-returns-2
 unfolding columnFound
 returns-2 c =
     let a = c .before .before .before .before .before .before .args in
-    rw (le-leb 4 (a .d) (omega arith)) (c .before .before .put-two .ensures)
+    rw (le-leb (a .run) (a .d) (omega arith)) (c .before .before .put-two .ensures)
 
 pub put-column-spec : {M : Type 1} → statement M
 put-column-spec =

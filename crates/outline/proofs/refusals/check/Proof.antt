@@ -2,7 +2,7 @@
 -- (check-on). Assumes nothing.
 use mathlib.Core.Path.{_∙_, sym}
 use borrow.Author.Needs.{needs}
-use Rattle.checks.proofs.Checked.{check-on, check-off}
+use Rattle.picture_checks.proofs.Checked.{check-on, check-off}
 use Rattle.outline.proofs.refusals.check.Statement.{statement}
 use Rattle.outline.proofs.refusals.check.Tie as tie
 

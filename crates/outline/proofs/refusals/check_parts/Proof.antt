@@ -76,8 +76,9 @@ mul-if4 c =
 
 returns-4 : tie.Need-returns-4
 returns-4 c =
-    let a = c .before .before .before .before .before .before .before .args in
-    let x = c .before .before .before .before .before .before .is-part in
+    let q = c .before .before .before .before .before .before in
+    let a = q .before .args in
+    let x = q .is-part in
     let y = c .before .before .before .before .is-part2 in
     let g = c .before .before .grids-fit in
     rw (
@@ -92,8 +93,9 @@ returns-4 c =
 
 returns-5 : tie.Need-returns-5
 returns-5 c =
-    let a = c .before .before .before .before .before .before .before .args in
-    let x = c .before .before .before .before .before .before .is-part in
+    let q = c .before .before .before .before .before .before in
+    let a = q .before .args in
+    let x = q .is-part in
     let y = c .before .before .before .before .is-part2 in
     let g = c .before .before .grids-fit in
     rw (

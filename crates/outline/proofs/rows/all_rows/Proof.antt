@@ -1,29 +1,30 @@
 -- `outline::rows::all_rows` meets its contract. The loop's invariant: the points of the first i rows are stored, and to is the place after
 -- them. The measure is m - i. Assumes nothing.
 use mathlib.Core.Path.{_≡_}
-use Prim.Native.Nat.{_+_, _-_, _≤_}
+use mathlib.Core.List.{List}
+use Prim.Native.Nat.{ℕ, _+_, _-_, _≤_}
 use native.Mathlib.Omega.{arith}
 use denote.Ref.{now}
 use borrow.Author.Needs.{needs}
 use Rattle.boundary.specs.Boundary.{memberAt, rowPoints, rowsFrom}
-use Rattle.outline.specs.Scan.{Wrote}
+use Rattle.outline.specs.Inner.{Wrote}
 use Rattle.outline.proofs.Writes.{put-begin, put-more, room-more, row-two, wrote-length}
 use Rattle.outline.proofs.rows.all_rows.Statement.{statement}
 use Rattle.outline.proofs.rows.all_rows.Tie as tie
 
 abbrev Inv-loop : tie.InvT-loop
-Inv-loop s levels labels want w h x0 n y0 m out₀ to₀ i₀ out to i =
-    (i ≤ m) × Wrote 0 (rowsFrom 4 (memberAt want w s levels labels) x0 n y0 i) out₀ out to
+Inv-loop s levels labels want run w h x0 n y0 m out₀ to₀ i₀ out to i =
+    (i ≤ m) × Wrote 0 (rowsFrom run (memberAt want w s levels labels) x0 n y0 i) out₀ out to
 
 abbrev μ-loop : tie.MeasureT-loop
-μ-loop s levels labels want w h x0 n y0 m out₀ to₀ i₀ out to i = m - i
+μ-loop s levels labels want run w h x0 n y0 m out₀ to₀ i₀ out to i = m - i
 
 loop-holds : tie.Need-loop-holds Inv-loop μ-loop
 unfolding rowsFrom
 loop-holds c =
     let a = c .before .before .before .before .args in
     let p = memberAt (a .want) (a .w) (now (a .s)) (now (a .levels)) (now (a .labels)) in
-    (omega arith, put-begin (λ j. rowPoints 4 p (a .x0) (a .n) (a .y0 + j)) 0 (now (a .out)))
+    (omega arith, put-begin (λ j. rowPoints (a .run) p (a .x0) (a .n) (a .y0 + j)) 0 (now (a .out)))
 
 add-row-points : tie.Need-add-row-points Inv-loop μ-loop
 add-row-points c = search needs
@@ -37,11 +38,14 @@ row-points-requires c κs =
     let p = memberAt (a .want) (a .w) (now (a .s)) (now (a .levels)) (now (a .labels)) in (
       e .pre .0,
       (
-        e .pre .1 .0,
+        (
+          e .pre .1 .0 .0,
+          e .pre .1 .0 .1,
+          omega arith,
+          room-more (λ j. rowPoints (a .run) p (a .x0) (a .n) (a .y0 + j)) (q .i) (a .m)
+              (λ j. row-two (a .run) p (a .x0) (a .n) (a .y0 + j)) (q .inv .1) (omega arith) (omega arith),
+        ),
         e .pre .1 .1,
-        omega arith,
-        room-more (λ j. rowPoints 4 p (a .x0) (a .n) (a .y0 + j)) (q .i) (a .m) (λ j. row-two 4 p (a .x0) (a .n) (a .y0 + j)) (q .inv .1)
-            (omega arith) (omega arith),
       ),
     )
 
@@ -57,7 +61,8 @@ loop-again c =
     let a = c .before .before .before .before .before .before .before .before .before .before .args in
     let q = c .before .before .before .before .before .loop in
     let p = memberAt (a .want) (a .w) (now (a .s)) (now (a .levels)) (now (a .labels)) in
-    (omega arith, put-more (λ j. rowPoints 4 p (a .x0) (a .n) (a .y0 + j)) (q .i) (q .inv .1) (c .before .before .row-points .ensures))
+    let f : ℕ → List (ℕ × ℕ) = λ j. rowPoints (a .run) p (a .x0) (a .n) (a .y0 + j) in
+    (omega arith, put-more f (q .i) (q .inv .1) (c .before .before .row-points .ensures))
 
 same-length : tie.Need-same-length Inv-loop μ-loop
 same-length c = wrote-length (c .before .loop .inv .1)

@@ -4,7 +4,7 @@ use Prim.Native.Nat.{ℕ}
 use denote.Ref.{now}
 use borrow.Author.Needs.{needs}
 use Rattle.boundary.specs.Boundary.{memberAt}
-use Rattle.outline.specs.Scan.{rowLine}
+use Rattle.outline.specs.Inner.{rowLine}
 use Rattle.outline.proofs.rows.at.Statement.{statement}
 use Rattle.outline.proofs.rows.at.Tie as tie
 

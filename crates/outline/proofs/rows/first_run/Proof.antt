@@ -1,4 +1,4 @@
--- `outline::rows::first_run` meets its contract. The loop's invariant (`Clear`): no run of 4 starts before k. The measure is n - k. Assumes
+-- `outline::rows::first_run` meets its contract. The loop's invariant (`Clear`): no run starts before k. The measure is n - k. Assumes
 -- nothing.
 use mathlib.Core.Path.{sym, _∙_}
 use Prim.Native.Nat.{_-_, _≤_}
@@ -6,22 +6,22 @@ use native.Mathlib.Omega.{arith}
 use denote.Ref.{now}
 use borrow.Author.Needs.{needs}
 use Rattle.boundary.specs.Boundary.{memberAt}
-use Rattle.outline.specs.Scan.{rowLine}
+use Rattle.outline.specs.Inner.{rowLine}
 use Rattle.outline.proofs.Skips.{Clear, clear-begin, clear-turn, clear-found, clear-end}
 use Rattle.outline.proofs.rows.first_run.Statement.{statement}
 use Rattle.outline.proofs.rows.first_run.Tie as tie
 
 abbrev Inv-loop : tie.InvT-loop
-Inv-loop s levels labels want w h x0 n y back k₀ k = (k ≤ n) × Clear (rowLine (memberAt want w s levels labels) x0 n y back) n k
+Inv-loop s levels labels want run w h x0 n y back k₀ k = (k ≤ n) × Clear run (rowLine (memberAt want w s levels labels) x0 n y back) n k
 
 abbrev μ-loop : tie.MeasureT-loop
-μ-loop s levels labels want w h x0 n y back k₀ k = n - k
+μ-loop s levels labels want run w h x0 n y back k₀ k = n - k
 
 loop-holds : tie.Need-loop-holds Inv-loop μ-loop
 loop-holds c =
     let a = c .before .before .before .args in (
       omega arith,
-      clear-begin
+      clear-begin (a .run)
           (rowLine (memberAt (a .want) (a .w) (now (a .s)) (now (a .levels)) (now (a .labels))) (a .x0) (a .n) (a .y) (a .back)) (a .n),
     )
 
@@ -33,10 +33,12 @@ skip-requires c κs = search needs
 
 returns : tie.Need-returns Inv-loop μ-loop
 returns c =
-    let a = c .before .before .before .before .before .before .before .args in
+    let e = c .before .before .before .before .before .before .before in
+    let a = e .args in
     let q = c .before .before .before .loop in
     let t = rowLine (memberAt (a .want) (a .w) (now (a .s)) (now (a .levels)) (now (a .labels))) (a .x0) (a .n) (a .y) (a .back) in
-    (sym (clear-found t (a .n) (q .k) (q .inv .1) (sym (c .before .skip .ensures .0) ∙ c .if1 .taken) (omega arith)), omega arith)
+    let none = sym (c .before .skip .ensures .0) ∙ c .if1 .taken in
+    (sym (clear-found (a .run) t (a .n) (q .k) (q .inv .1) (e .pre .1 .1 .0) none (omega arith)), omega arith)
 
 add-k : tie.Need-add-k Inv-loop μ-loop
 add-k c = search needs
@@ -50,14 +52,14 @@ loop-again c =
     let q = c .before .before .before .loop in
     let d = c .before .skip in
     let t = rowLine (memberAt (a .want) (a .w) (now (a .s)) (now (a .levels)) (now (a .labels))) (a .x0) (a .n) (a .y) (a .back) in
-    (omega (arith, d .ensures .1), clear-turn t (a .n) (q .k) (q .inv .1) (d .result) (d .ensures .0) (omega arith))
+    (omega (arith, d .ensures .1), clear-turn (a .run) t (a .n) (q .k) (q .inv .1) (d .result) (d .ensures .0) (omega arith))
 
 returns-2 : tie.Need-returns-2 Inv-loop μ-loop
 returns-2 c =
     let a = c .before .before .before .before .before .args in
     let q = c .before .loop in
     let t = rowLine (memberAt (a .want) (a .w) (now (a .s)) (now (a .levels)) (now (a .labels))) (a .x0) (a .n) (a .y) (a .back) in
-    (sym (clear-end t (a .n) (q .k) (q .inv .1) (omega arith)), omega arith)
+    (sym (clear-end (a .run) t (a .n) (q .k) (q .inv .1) (omega arith)), omega arith)
 
 pub first-run-spec : {M : Type 1} → statement M
 first-run-spec =

@@ -7,7 +7,8 @@ use lib.Dec.{ltb}
 use lib.ListN.{getD}
 use denote.Ref.{now}
 use borrow.Author.Needs.{needs}
-use Rattle.outline.proofs.Cuts.{place-lt, member-cut}
+use Rattle.laws.proofs.Planes.{place-lt}
+use Rattle.outline.proofs.Cuts.{member-cut}
 use Rattle.outline.proofs.rows.member.Statement.{statement}
 use Rattle.outline.proofs.rows.member.Tie as tie
 

@@ -22,7 +22,7 @@ returns : tie.Need-returns
 returns c =
     let a = c .before .before .before .before .before .before .before .args in
     let m = memberAt (a .want) (a .w) (now (a .s)) (now (a .levels)) (now (a .labels)) in
-    wrote-ext _ _ (row-none m (a .x0) (a .n) (a .y) (sym (c .enum-told .given .1) ∙ c .before .before .run-extremes .ensures))
+    wrote-ext _ _ (row-none (a .run) m (a .x0) (a .n) (a .y) (sym (c .enum-told .given .1) ∙ c .before .before .run-extremes .ensures))
     (wrote-none (a .to) (now (a .out)))
 
 add-put-two : tie.Need-add-put-two
@@ -30,7 +30,7 @@ add-put-two c =
     let a = c .before .before .before .before .before .before .before .before .before .args in
     let v = c .before .before .a .given in
     let m = memberAt (a .want) (a .w) (now (a .s)) (now (a .levels)) (now (a .labels)) in
-    let l = extremes-le m (a .x0) (a .n) (a .y) (v .0 .0) (v .0 .1 .0)
+    let l = extremes-le (a .run) m (a .x0) (a .n) (a .y) (v .0 .0) (v .0 .1 .0)
     (sym (v .1) ∙ c .before .before .before .before .run-extremes .ensures) in
     omega arith
 
@@ -39,7 +39,7 @@ mul-put-two c =
     let a = c .before .before .before .before .before .before .before .before .before .args in
     let v = c .before .before .a .given in
     let m = memberAt (a .want) (a .w) (now (a .s)) (now (a .levels)) (now (a .labels)) in
-    let l = extremes-le m (a .x0) (a .n) (a .y) (v .0 .0) (v .0 .1 .0)
+    let l = extremes-le (a .run) m (a .x0) (a .n) (a .y) (v .0 .0) (v .0 .1 .0)
     (sym (v .1) ∙ c .before .before .before .before .run-extremes .ensures) in
     omega arith
 
@@ -54,7 +54,7 @@ add-put-two-3 c =
     let a = c .before .before .before .before .before .before .before .before .before .args in
     let v = c .before .before .a .given in
     let m = memberAt (a .want) (a .w) (now (a .s)) (now (a .levels)) (now (a .labels)) in
-    let l = extremes-le m (a .x0) (a .n) (a .y) (v .0 .0) (v .0 .1 .0)
+    let l = extremes-le (a .run) m (a .x0) (a .n) (a .y) (v .0 .0) (v .0 .1 .0)
     (sym (v .1) ∙ c .before .before .before .before .run-extremes .ensures) in
     omega arith
 
@@ -63,7 +63,7 @@ mul-put-two-3 c =
     let a = c .before .before .before .before .before .before .before .before .before .args in
     let v = c .before .before .a .given in
     let m = memberAt (a .want) (a .w) (now (a .s)) (now (a .levels)) (now (a .labels)) in
-    let l = extremes-le m (a .x0) (a .n) (a .y) (v .0 .0) (v .0 .1 .0)
+    let l = extremes-le (a .run) m (a .x0) (a .n) (a .y) (v .0 .0) (v .0 .1 .0)
     (sym (v .1) ∙ c .before .before .before .before .run-extremes .ensures) in
     omega arith
 
@@ -75,12 +75,13 @@ add-put-two-4 c = search needs
 
 put-two-requires : tie.Need-put-two-requires
 put-two-requires c κs =
-    let a = c .before .before .before .before .before .before .before .before .before .args in
+    let q = c .before .before .before .before .before .before .before .before .before in
+    let a = q .args in
     let v = c .before .before .a .given in
     let m = memberAt (a .want) (a .w) (now (a .s)) (now (a .levels)) (now (a .labels)) in
-    let l = extremes-le m (a .x0) (a .n) (a .y) (v .0 .0) (v .0 .1 .0)
+    let l = extremes-le (a .run) m (a .x0) (a .n) (a .y) (v .0 .0) (v .0 .1 .0)
     (sym (v .1) ∙ c .before .before .before .before .run-extremes .ensures) in (
-      c .before .before .before .before .before .before .before .before .before .pre .1 .3,
+      q .pre .1 .0 .3,
       (omega arith, omega arith, omega arith, omega arith),
     )
 
@@ -89,11 +90,12 @@ same-length c = search needs
 
 returns-2 : tie.Need-returns-2
 returns-2 c =
-    let a = c .before .before .before .before .before .before .before .before .before .before .before .before .args in
+    let q = c .before .before .before .before .before .before .before in
+    let a = q .before .before .before .before .before .args in
     let v = c .before .before .before .before .before .a .given in
     let m = memberAt (a .want) (a .w) (now (a .s)) (now (a .levels)) (now (a .labels)) in
-    wrote-ext _ _ (row-some m (a .x0) (a .n) (a .y) (v .0 .0) (v .0 .1 .0)
-    (sym (v .1) ∙ c .before .before .before .before .before .before .before .run-extremes .ensures))
+    wrote-ext _ _ (row-some (a .run) m (a .x0) (a .n) (a .y) (v .0 .0) (v .0 .1 .0)
+    (sym (v .1) ∙ q .run-extremes .ensures))
     (c .before .before .put-two .ensures)
 
 pub row-points-spec : {M : Type 1} → statement M

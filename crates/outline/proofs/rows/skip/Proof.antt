@@ -1,101 +1,76 @@
--- `outline::rows::skip` meets its contract. Each way out is one case of `skipOf`. Assumes nothing.
+-- `outline::rows::skip` meets its contract. The loop's invariant: of the run's pixels those after the first j are members, and the first j
+-- decide. The measure is j. Assumes nothing.
+use mathlib.Core.Path.{_≡_, refl, sym, _∙_}
+use Prim.Native.Nat.{_≤_}
 use native.Mathlib.Omega.{arith}
+use denote.Ref.{now}
 use borrow.Author.Needs.{needs}
-use Rattle.outline.specs.Scan.{skipOf}
+use Rattle.laws.proofs.Bools.{told-true, told-false}
+use Rattle.boundary.specs.Boundary.{memberAt}
+use Rattle.outline.specs.Inner.{rowLine, skipOf}
+use Rattle.outline.proofs.Skips.{skip-on, skip-here, skip-none}
 use Rattle.outline.proofs.rows.skip.Statement.{statement}
 use Rattle.outline.proofs.rows.skip.Tie as tie
 
-add-at : tie.Need-add-at
+abbrev Inv-loop : tie.InvT-loop
+Inv-loop s levels labels want run w h x0 n y back k j₀ j =
+    let t = rowLine (memberAt want w s levels labels) x0 n y back in
+    (j ≤ run) × (skipOf run t k ≡ skipOf j t k)
+
+abbrev μ-loop : tie.MeasureT-loop
+μ-loop s levels labels want run w h x0 n y back k j₀ j = j
+
+loop-holds : tie.Need-loop-holds Inv-loop μ-loop
+loop-holds c = (omega arith, refl)
+
+sub-at : tie.Need-sub-at Inv-loop μ-loop
+sub-at c = search needs
+
+add-at : tie.Need-add-at Inv-loop μ-loop
 add-at c = search needs
 
-at-requires : tie.Need-at-requires
+at-requires : tie.Need-at-requires Inv-loop μ-loop
 at-requires c κs = search needs
 
-add-at-2 : tie.Need-add-at-2
-add-at-2 c = search needs
+returns : tie.Need-returns Inv-loop μ-loop
+returns c =
+    let a = c .before .before .before .before .before .before .before .args in
+    let q = c .before .before .before .loop in
+    let t = rowLine (memberAt (a .want) (a .w) (now (a .s)) (now (a .levels)) (now (a .labels))) (a .x0) (a .n) (a .y) (a .back) in
+    (sym (q .inv .1 ∙ skip-here t (a .k) (q .j) (omega arith) (told-false (c .before .at .ensures) (c .if1 .taken))), q .inv .0)
 
-at-requires-2 : tie.Need-at-requires-2
-at-requires-2 c κs = search needs
+sub-j : tie.Need-sub-j Inv-loop μ-loop
+sub-j c = search needs
 
-add-at-3 : tie.Need-add-at-3
-add-at-3 c = search needs
+loop-less : tie.Need-loop-less Inv-loop μ-loop
+loop-less c = search needs
 
-at-requires-3 : tie.Need-at-requires-3
-at-requires-3 c κs = search needs
+loop-again : tie.Need-loop-again Inv-loop μ-loop
+loop-again c =
+    let a = c .before .before .before .before .before .before .before .args in
+    let q = c .before .before .before .loop in
+    let t = rowLine (memberAt (a .want) (a .w) (now (a .s)) (now (a .levels)) (now (a .labels))) (a .x0) (a .n) (a .y) (a .back) in
+    (omega arith, q .inv .1 ∙ skip-on t (a .k) (q .j) (omega arith) (told-true (c .before .at .ensures) (c .if1 .left)))
 
-at-requires-4 : tie.Need-at-requires-4
-at-requires-4 c κs = search needs
-
-returns : tie.Need-returns
-unfolding skipOf
-returns c = (
-  rw (
-    ← c .before .before .before .before .before .before .before .at .ensures,
-    c .before .before .before .before .before .before .if1 .taken,
-    ← c .before .before .before .before .before .at2 .ensures,
-    c .before .before .before .before .if2 .taken,
-    ← c .before .before .before .at3 .ensures,
-    c .before .before .if3 .taken,
-    ← c .before .at4 .ensures,
-    c .if4 .taken,
-  ),
-  omega arith,
-)
-
-returns-2 : tie.Need-returns-2
-unfolding skipOf
-returns-2 c = (
-  rw (
-    ← c .before .before .before .before .before .before .before .at .ensures,
-    c .before .before .before .before .before .before .if1 .taken,
-    ← c .before .before .before .before .before .at2 .ensures,
-    c .before .before .before .before .if2 .taken,
-    ← c .before .before .before .at3 .ensures,
-    c .before .before .if3 .taken,
-    ← c .before .at4 .ensures,
-    c .if4 .left,
-  ),
-  omega arith,
-)
-
-returns-3 : tie.Need-returns-3
-unfolding skipOf
-returns-3 c = (
-  rw (
-    ← c .before .before .before .before .before .at .ensures,
-    c .before .before .before .before .if1 .taken,
-    ← c .before .before .before .at2 .ensures,
-    c .before .before .if2 .taken,
-    ← c .before .at3 .ensures,
-    c .if3 .left,
-  ),
-  omega arith,
-)
-
-returns-4 : tie.Need-returns-4
-unfolding skipOf
-returns-4 c = (
-  rw (← c .before .before .before .at .ensures, c .before .before .if1 .taken, ← c .before .at2 .ensures, c .if2 .left),
-  omega arith,
-)
-
-returns-5 : tie.Need-returns-5
-unfolding skipOf
-returns-5 c = (rw (← c .before .at .ensures, c .if1 .left), omega arith)
+returns-2 : tie.Need-returns-2 Inv-loop μ-loop
+returns-2 c =
+    let a = c .before .before .before .before .before .args in
+    let q = c .before .loop in
+    let t = rowLine (memberAt (a .want) (a .w) (now (a .s)) (now (a .levels)) (now (a .labels))) (a .x0) (a .n) (a .y) (a .back) in
+    (sym (q .inv .1 ∙ skip-none t (a .k) (q .j) (omega arith)), omega arith)
 
 pub skip-spec : {M : Type 1} → statement M
 skip-spec =
     tie.close
     (tie.spec
+    Inv-loop
+    μ-loop
+    loop-holds
+    sub-at
     add-at
     at-requires
-    add-at-2
-    at-requires-2
-    add-at-3
-    at-requires-3
-    at-requires-4
     returns
-    returns-2
-    returns-3
-    returns-4
-    returns-5)
+    sub-j
+    loop-less
+    loop-again
+    returns-2)

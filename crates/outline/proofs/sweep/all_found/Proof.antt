@@ -11,10 +11,10 @@ use Rattle.outline.proofs.sweep.all_found.Statement.{statement}
 use Rattle.outline.proofs.sweep.all_found.Tie as tie
 
 abbrev Inv-loop : tie.InvT-loop
-Inv-loop state n k i₀ i = (i ≤ n) × ((j : ℕ) → j < i → 4 ≤ getD state j 0)
+Inv-loop run state n k i₀ i = (i ≤ n) × ((j : ℕ) → j < i → run ≤ getD state j 0)
 
 abbrev μ-loop : tie.MeasureT-loop
-μ-loop state n k i₀ i = n - i
+μ-loop run state n k i₀ i = n - i
 
 returns : tie.Need-returns Inv-loop μ-loop
 returns c = λ e. absurd (mathlib.Core.Bool.false≢true e)
@@ -41,7 +41,7 @@ loop-again : tie.Need-loop-again Inv-loop μ-loop
 loop-again c =
     let a = c .before .before .before .before .before .args in
     let q = c .before .before .before .loop in
-    (omega arith, below-next (λ j. 4 ≤ getD (now (a .state)) j 0) (q .i) (q .inv .1) (omega arith))
+    (omega arith, below-next (λ j. a .run ≤ getD (now (a .state)) j 0) (q .i) (q .inv .1) (omega arith))
 
 returns-3 : tie.Need-returns-3 Inv-loop μ-loop
 returns-3 c = λ e i l. c .before .loop .inv .1 i (omega arith)

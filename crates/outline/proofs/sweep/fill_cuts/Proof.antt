@@ -5,7 +5,7 @@ use Prim.Native.Nat.{_-_, _≤_, _<_, _+_, _/_}
 use native.Mathlib.Omega.{arith}
 use denote.Ref.{now}
 use borrow.Author.Needs.{needs}
-use Rattle.outline.specs.Scan.{cutOf, CutRow}
+use Rattle.outline.specs.Inner.{cutOf, CutRow}
 use Rattle.outline.proofs.Sweeps.{cuts-turn}
 use Rattle.outline.proofs.sweep.fill_cuts.Statement.{statement}
 use Rattle.outline.proofs.sweep.fill_cuts.Tie as tie

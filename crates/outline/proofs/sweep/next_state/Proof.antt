@@ -4,7 +4,7 @@ use mathlib.Core.Path.{ap, _∙_}
 use Prim.Native.Nat.{ℕ}
 use lib.Dec.{leb, ltb}
 use borrow.Author.Needs.{needs}
-use Rattle.outline.specs.Scan.{scanStep}
+use Rattle.outline.specs.Inner.{scanStep}
 use Rattle.outline.proofs.sweep.next_state.Statement.{statement}
 use Rattle.outline.proofs.sweep.next_state.Tie as tie
 
@@ -28,7 +28,7 @@ unfolding scanStep
 returns c =
     let a = c .before .before .before .args in
     c .pick3 .ensures
-    ∙ ap (λ (v : ℕ). cond (leb 4 (a .state)) (a .state) v)
+    ∙ ap (λ (v : ℕ). cond (leb (a .run) (a .state)) (a .state) v)
     (c .before .pick2 .ensures ∙ ap (λ (v : ℕ). cond (ltb (a .p) (a .t)) v 0) (c .before .before .pick .ensures))
 
 pub next-state-spec : {M : Type 1} → statement M

@@ -11,10 +11,10 @@ use Rattle.outline.proofs.sweep.none_found.Statement.{statement}
 use Rattle.outline.proofs.sweep.none_found.Tie as tie
 
 abbrev Inv-loop : tie.InvT-loop
-Inv-loop state n i₀ i = (i ≤ n) × ((j : ℕ) → j < i → getD state j 0 < 4)
+Inv-loop run state n i₀ i = (i ≤ n) × ((j : ℕ) → j < i → getD state j 0 < run)
 
 abbrev μ-loop : tie.MeasureT-loop
-μ-loop state n i₀ i = n - i
+μ-loop run state n i₀ i = n - i
 
 loop-holds : tie.Need-loop-holds Inv-loop μ-loop
 loop-holds c = (omega arith, λ j l. absurd (not-suc-le-zero l))
@@ -38,7 +38,7 @@ loop-again : tie.Need-loop-again Inv-loop μ-loop
 loop-again c =
     let a = c .before .before .before .before .args in
     let q = c .before .before .before .loop in
-    (omega arith, below-next (λ j. getD (now (a .state)) j 0 < 4) (q .i) (q .inv .1) (omega arith))
+    (omega arith, below-next (λ j. getD (now (a .state)) j 0 < a .run) (q .i) (q .inv .1) (omega arith))
 
 returns-2 : tie.Need-returns-2 Inv-loop μ-loop
 returns-2 c = λ e i l. c .before .loop .inv .1 i (omega arith)

@@ -6,18 +6,18 @@ use native.Mathlib.Omega.{arith}
 use denote.Ref.{now}
 use borrow.Author.Needs.{needs}
 use Rattle.boundary.specs.Boundary.{memberAt}
-use Rattle.outline.specs.Scan.{Swept, CutRow}
+use Rattle.outline.specs.Inner.{Swept, CutRow}
 use Rattle.outline.proofs.Sweeps.{swept-most, swept-turn, swept-early}
 use Rattle.outline.proofs.sweep.scan_columns.Statement.{statement}
 use Rattle.outline.proofs.sweep.scan_columns.Tie as tie
 
 abbrev Inv-loop : tie.InvT-loop
-Inv-loop s levels labels want w h x n y0 rows back state₀ cuts₀ y₀ k₀ state cuts y k =
+Inv-loop s levels labels want run w h x n y0 rows back state₀ cuts₀ y₀ k₀ state cuts y k =
     (k ≤ rows) × (y < y0 + rows) × CutRow want w levels labels x n (y / 8) cuts
-    × Swept (memberAt want w s levels labels) y0 rows x n back k state
+    × Swept run (memberAt want w s levels labels) y0 rows x n back k state
 
 abbrev μ-loop : tie.MeasureT-loop
-μ-loop s levels labels want w h x n y0 rows back state₀ cuts₀ y₀ k₀ state cuts y k = rows - k
+μ-loop s levels labels want run w h x n y0 rows back state₀ cuts₀ y₀ k₀ state cuts y k = rows - k
 
 place-requires : tie.Need-place-requires Inv-loop μ-loop
 place-requires c κs = search needs
@@ -44,13 +44,14 @@ cast-sweep-row c =
 
 sweep-row-requires : tie.Need-sweep-row-requires Inv-loop μ-loop
 sweep-row-requires c κs =
-    let e = c .before .before .before .before .before .before .before .before .before .before .before .before .before in
+    let u = c .before .before .before .before .before .before in
+    let e = u .before .before .before .before .before .before .before in
     let a = e .args in
     let g = e .pre .0 in
     let p = e .pre .1 .0 in
-    let q = c .before .before .before .before .before .before .loop in
+    let q = u .loop in
     let m = memberAt (a .want) (a .w) (now (a .s)) (now (a .levels)) (now (a .labels)) in
-    let most = swept-most m (a .y0) (a .rows) (a .x) (a .n) (a .back) (q .k) (q .state) (q .inv .3) in (
+    let most = swept-most (a .run) (p .3) m (a .y0) (a .rows) (a .x) (a .n) (a .back) (q .k) (q .state) (q .inv .3) in (
       (p .0 .bytes, g .wide, g .high, p .0 .across, omega (arith, p .0)),
       (p .2, q .inv .3 .size, omega (arith, p .0, g), λ i l. omega (arith, most i l, p .0, g)),
     )
@@ -66,38 +67,40 @@ all-found-requires c κs =
 
 returns : tie.Need-returns Inv-loop μ-loop
 returns c =
-    let d = c .before .before .before .before .before .before .before .before .before .before in
+    let u = c .before .before .before .before .before .before in
+    let d = u .before .before .before .before in
     let a = d .before .before .before .before .before .before .before .args in
     let q = d .loop in
-    let y = c .before .before .before .before .before .before .before .before .place2 in
-    let test = c .before .before .before .before .before .before .before .before .before .loop-test in
-    let cuts = c .before .before .before .before .before .before .refill .ensures in
-    let v = swept-turn (a .want) (a .w) (now (a .s)) (now (a .levels)) (now (a .labels)) (a .y0) (a .rows) (a .x) (a .n) (a .back) (q .k)
-    (q .state) _ (y .result) _ (q .inv .3) cuts (y .ensures .0) (c .before .before .before .sweep-row .ensures) in
-    swept-early (memberAt (a .want) (a .w) (now (a .s)) (now (a .levels)) (now (a .labels))) (a .y0) (a .rows) (a .x) (a .n) (a .back)
-    (q .k + 1) _ v (c .before .all-found .ensures (c .if1 .taken)) (omega (arith, test))
+    let y = u .before .before .place2 in
+    let test = u .before .before .before .loop-test in
+    let cuts = u .refill .ensures in
+    let v = swept-turn (a .run) (a .want) (a .w) (now (a .s)) (now (a .levels)) (now (a .labels)) (a .y0) (a .rows) (a .x) (a .n) (a .back)
+    (q .k) (q .state) _ (y .result) _ (q .inv .3) cuts (y .ensures .0) (c .before .before .before .sweep-row .ensures) in
+    swept-early (a .run) (memberAt (a .want) (a .w) (now (a .s)) (now (a .levels)) (now (a .labels))) (a .y0) (a .rows) (a .x) (a .n)
+    (a .back) (q .k + 1) _ v (c .before .all-found .ensures (c .if1 .taken)) (omega (arith, test))
 
 loop-less : tie.Need-loop-less Inv-loop μ-loop
 loop-less c = search needs
 
 loop-again : tie.Need-loop-again Inv-loop μ-loop
 loop-again c =
-    let d = c .before .before .before .before .before .before .before .before .before .before in
+    let u = c .before .before .before .before .before .before in
+    let d = u .before .before .before .before in
     let a = d .before .before .before .before .before .before .before .args in
     let q = d .loop in
-    let y = c .before .before .before .before .before .before .before .before .place2 in
-    let cuts = c .before .before .before .before .before .before .refill .ensures in
-    let v = swept-turn (a .want) (a .w) (now (a .s)) (now (a .levels)) (now (a .labels)) (a .y0) (a .rows) (a .x) (a .n) (a .back) (q .k)
-    (q .state) _ (y .result) _ (q .inv .3) cuts (y .ensures .0) (c .before .before .before .sweep-row .ensures) in
-    (omega (arith, c .before .before .before .before .before .before .before .before .before .loop-test), y .ensures .1, cuts, v)
+    let y = u .before .before .place2 in
+    let cuts = u .refill .ensures in
+    let v = swept-turn (a .run) (a .want) (a .w) (now (a .s)) (now (a .levels)) (now (a .labels)) (a .y0) (a .rows) (a .x) (a .n) (a .back)
+    (q .k) (q .state) _ (y .result) _ (q .inv .3) cuts (y .ensures .0) (c .before .before .before .sweep-row .ensures) in
+    (omega (arith, u .before .before .before .loop-test), y .ensures .1, cuts, v)
 
 returns-2 : tie.Need-returns-2 Inv-loop μ-loop
 returns-2 c =
     let a = c .before .before .before .before .before .before .before .before .args in
     let q = c .before .loop in
     let z : q .k ≡ a .rows = omega arith in
-    subst (λ (k : ℕ). Swept (memberAt (a .want) (a .w) (now (a .s)) (now (a .levels)) (now (a .labels))) (a .y0) (a .rows) (a .x) (a .n)
-    (a .back) k (q .state)) z (q .inv .3)
+    subst (λ (k : ℕ). Swept (a .run) (memberAt (a .want) (a .w) (now (a .s)) (now (a .levels)) (now (a .labels))) (a .y0) (a .rows) (a .x)
+    (a .n) (a .back) k (q .state)) z (q .inv .3)
 
 pub scan-columns-spec : {M : Type 1} → statement M
 scan-columns-spec =

@@ -6,7 +6,7 @@ use native.Mathlib.Omega.{arith}
 use lib.ListN.{length}
 use denote.Ref.{now}
 use borrow.Author.Needs.{needs}
-use Rattle.outline.specs.Scan.{Stepped}
+use Rattle.outline.specs.Inner.{Stepped}
 use Rattle.outline.proofs.Sweeps.{stepped-turn}
 use Rattle.outline.proofs.sweep.step_row.Statement.{statement}
 use Rattle.outline.proofs.sweep.step_row.Tie as tie
@@ -15,10 +15,10 @@ use Rattle.outline.proofs.sweep.step_row.Tie as tie
 -- what is left of the row. Assumes nothing.
 
 abbrev Inv-loop : tie.InvT-loop
-Inv-loop row cuts state₀ k i₀ state i = (i ≤ length row) × Stepped row cuts state₀ k i state
+Inv-loop run row cuts state₀ k i₀ state i = (i ≤ length row) × Stepped run row cuts state₀ k i state
 
 abbrev μ-loop : tie.MeasureT-loop
-μ-loop row cuts state₀ k i₀ state i = length row - i
+μ-loop run row cuts state₀ k i₀ state i = length row - i
 
 loop-holds : tie.Need-loop-holds Inv-loop μ-loop
 loop-holds c = search needs
@@ -63,7 +63,7 @@ returns c =
     let a = c .before .before .before .args in
     let q = c .before .loop in
     let z : q .i ≡ length (now (a .row)) = omega arith in
-    subst (λ (k : ℕ). Stepped (now (a .row)) (now (a .cuts)) (now (a .state)) (a .k) k (q .state)) z (q .inv .1)
+    subst (λ (k : ℕ). Stepped (a .run) (now (a .row)) (now (a .cuts)) (now (a .state)) (a .k) k (q .state)) z (q .inv .1)
 
 pub step-row-spec : {M : Type 1} → statement M
 step-row-spec =

@@ -5,7 +5,7 @@ use native.Mathlib.Nat.{mul-le-mul}
 use native.Mathlib.Omega.{arith}
 use denote.Ref.{now}
 use borrow.Author.Needs.{needs}
-use Rattle.outline.specs.Scan.{AtMost}
+use Rattle.outline.specs.Inner.{AtMost}
 use Rattle.outline.proofs.Cuts.{row-within}
 use Rattle.outline.proofs.Sweeps.{part-long, part-stepped}
 use Rattle.outline.proofs.sweep.sweep_row.Statement.{statement}

@@ -2,7 +2,7 @@
 -- The measure is how many regions are left. Assumes nothing.
 use lib.ListN.{length}
 use mathlib.Core.Path.{_≡_}
-use Prim.Native.Nat.{_-_, _≤_}
+use Prim.Native.Nat.{_-_}
 use borrow.Author.Needs.{needs}
 use Rattle.overlay.proofs.areas.all_regions.Statement.{statement}
 use Rattle.overlay.proofs.areas.all_regions.Tie as tie

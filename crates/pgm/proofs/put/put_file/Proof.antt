@@ -15,12 +15,13 @@ put-header-requires c κs =
 
 put-word-requires : tie.Need-put-word-requires
 put-word-requires c κs =
-    let a = c .before .before .before .before .before .before .before .args in
+    let q = c .before .before .before .before .before .before .before in
+    let a = q .args in
     let e = c .before .before .before .put-header .ensures in
     omega (
       arith,
       text-length (a .w) (a .h) (now (a .pixels)),
-      c .before .before .before .before .before .before .before .pre,
+      q .pre,
       e .next,
       stored-length e,
     )

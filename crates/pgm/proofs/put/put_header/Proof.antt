@@ -23,16 +23,18 @@ put-number-requires c κs =
 
 put-byte-requires : tie.Need-put-byte-requires
 put-byte-requires c κs =
-    let q = c .before .before .before .before .before .before .before .before .before .before .before in
-    let a = c .before .before .before .before .before .before .before .put-word .ensures in
+    let u = c .before .before .before .before .before .before .before in
+    let q = u .before .before .before .before in
+    let a = u .put-word .ensures in
     let b = c .before .before .before .put-number .ensures in
     omega (arith, header-length (q .args .w) (q .args .h), q .pre, a .next, b .next, stored-length b ∙ stored-length a)
 
 put-number-requires-2 : tie.Need-put-number-requires-2
 put-number-requires-2 c κs =
-    let q = c .before .before .before .before .before .before .before .before .before .before .before .before .before .before .before in
-    let a = c .before .before .before .before .before .before .before .before .before .before .before .put-word .ensures in
-    let b = c .before .before .before .before .before .before .before .put-number .ensures in
+    let u = c .before .before .before .before .before .before .before in
+    let q = u .before .before .before .before .before .before .before .before in
+    let a = u .before .before .before .before .put-word .ensures in
+    let b = u .put-number .ensures in
     let e = c .before .before .before .put-byte .ensures in
     let same = stored-length e ∙ stored-length b ∙ stored-length a in
     omega (arith, header-length (q .args .w) (q .args .h), q .pre, a .next, b .next, e .next, same)
@@ -42,35 +44,31 @@ slice-aggregate-put-word-2 c = search needs
 
 put-word-requires-2 : tie.Need-put-word-requires-2
 put-word-requires-2 c κs =
-    let q = c .before .before .before .before .before .before .before .before .before .before .before .before .before .before .before
-    .before .before .before .before .before in
-    let a = c .before .before .before .before .before .before .before .before .before .before .before .before .before .before .before
-    .before .put-word .ensures in
-    let b = c .before .before .before .before .before .before .before .before .before .before .before .before .put-number .ensures in
-    let e = c .before .before .before .before .before .before .before .before .put-byte .ensures in
+    let u = c .before .before .before .before .before .before .before .before in
+    let q = u .before .before .before .before .before .before .before .before .before .before .before .before in
+    let a = u .before .before .before .before .before .before .before .before .put-word .ensures in
+    let b = u .before .before .before .before .put-number .ensures in
+    let e = u .put-byte .ensures in
     let f = c .before .before .before .before .put-number2 .ensures in
     let same = stored-length f ∙ stored-length e ∙ stored-length b ∙ stored-length a in
     omega (arith, header-length (q .args .w) (q .args .h), q .pre, a .next, b .next, e .next, f .next, same)
 
 same-length : tie.Need-same-length
 same-length c =
+    let q = c .before .before .before .before .before .before .before in
     stored-length (c .before .before .put-word2 .ensures)
-    ∙ stored-length (c .before .before .before .before .before .before .before .put-number2 .ensures)
-    ∙ stored-length (c .before .before .before .before .before .before .before .before .before .before .before .put-byte .ensures)
-    ∙ stored-length (c .before .before .before .before .before .before .before .before .before .before .before .before .before .before
-    .before .put-number .ensures)
-    ∙ stored-length (c .before .before .before .before .before .before .before .before .before .before .before .before .before .before
-    .before .before .before .before .before .put-word .ensures)
+    ∙ stored-length (q .put-number2 .ensures)
+    ∙ stored-length (q .before .before .before .before .put-byte .ensures)
+    ∙ stored-length (q .before .before .before .before .before .before .before .before .put-number .ensures)
+    ∙ stored-length (q .before .before .before .before .before .before .before .before .before .before .before .before .put-word .ensures)
 
 returns : tie.Need-returns
 returns c =
-    let q = c .before .before .before .before .before .before .before .before .before .before .before .before .before .before .before
-    .before .before .before .before in
+    let u = c .before .before .before .before .before .before .before in
+    let q = u .before .before .before .before .before .before .before .before .before .before .before .before in
     let s = q .before .before .before .before .args in
-    header-stored (s .w) (s .h) (q .put-word .ensures) (c .before .before .before .before .before .before .before .before .before .before
-    .before .before .before .before .before .put-number .ensures) (c .before .before .before .before .before .before .before .before
-    .before .before .before .put-byte .ensures)
-    (c .before .before .before .before .before .before .before .put-number2 .ensures) (c .before .before .put-word2 .ensures)
+    header-stored (s .w) (s .h) (q .put-word .ensures) (u .before .before .before .before .before .before .before .before .put-number .ensures) (u .before .before .before .before .put-byte .ensures)
+    (u .put-number2 .ensures) (c .before .before .put-word2 .ensures)
 
 pub put-header-spec : {M : Type 1} → statement M
 put-header-spec =

@@ -10,7 +10,7 @@ use Rattle.proof_ring.proofs.Painting.{row-room}
 use Rattle.proof_ring.proofs.Rows.{painted-none, painted-row}
 use Rattle.proof_ring.proofs.paint.paint_box.Statement.{statement}
 use Rattle.proof_ring.proofs.paint.paint_box.Tie as tie
-use Rattle.proof_ring.specs.Painting.{Painted, darkBox}
+use Rattle.proof_ring.specs.Inner.{Painted, darkBox}
 
 abbrev Inv-loop : tie.InvT-loop
 Inv-loop pixels₀ w x0 y0 n j₀ pixels j = (j ≤ n) × Painted w (darkBox x0 y0 n j (plane w pixels₀)) pixels₀ pixels

@@ -6,7 +6,7 @@ use borrow.Author.Needs.{needs}
 use borrow.Author.Tests.{le-leb, leb-true, not-false, not-true}
 use Rattle.laws.proofs.Bools.{clash}
 use Rattle.regions.specs.Kept.{want}
-use Rattle.regions.specs.Listed.{left, took}
+use Rattle.regions.specs.Inner.{left, took}
 use Rattle.regions.proofs.pick.better.Statement.{statement}
 use Rattle.regions.proofs.pick.better.Tie as tie
 

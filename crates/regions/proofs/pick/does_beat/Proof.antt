@@ -2,7 +2,7 @@
 use borrow.Author.Needs.{needs}
 use borrow.Author.Tests.{le-ltb, lt-ltb}
 use Rattle.regions.specs.Kept.{ahead}
-use Rattle.regions.specs.Listed.{beats}
+use Rattle.regions.specs.Inner.{beats}
 use Rattle.regions.proofs.pick.does_beat.Statement.{statement}
 use Rattle.regions.proofs.pick.does_beat.Tie as tie
 

@@ -2,7 +2,7 @@
 use borrow.Author.Needs.{needs}
 use borrow.Author.Tests.{le-ltb, lt-ltb}
 use Rattle.regions.specs.Kept.{ahead}
-use Rattle.regions.specs.Listed.{behind}
+use Rattle.regions.specs.Inner.{behind}
 use Rattle.regions.proofs.pick.is_behind.Statement.{statement}
 use Rattle.regions.proofs.pick.is_behind.Tie as tie
 

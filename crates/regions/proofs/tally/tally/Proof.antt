@@ -33,9 +33,10 @@ shared-slice-read-bump c = search needs
 
 bump-requires : tie.Need-bump-requires Inv-loop μ-loop
 bump-requires c κs =
-    let e = c .before .before .before .before .before .before .before .before .before .before in
+    let u = c .before .before .before .before .before .before in
+    let e = u .before .before .before .before in
     let q = c .before .before .before .loop in (
-      omega (arith, e .pre .1 (q .c), q .inv .0 .size, c .before .before .before .before .before .before .clear .kept .0),
+      omega (arith, e .pre .1 (q .c), q .inv .0 .size, u .clear .kept .0),
       λ i h. omega (arith, q .inv .0 .most i h, q .inv .1, e .pre .0),
     )
 

@@ -7,11 +7,11 @@ use lib.ListN.{getD, length}
 use borrow.Author.Needs.{needs}
 use denote.Ref.{now}
 use Rattle.laws.proofs.Bools.{which}
-use Rattle.laws.specs.Plane.{binsOf}
+use Rattle.laws.specs.Plane.{valueAt}
 use Rattle.regions.proofs.Kept.{kept-at-ext, kept-of-ext}
 use Rattle.regions.proofs.Listing.{Listing, listing-begin, listing-end, listing-turn}
 use Rattle.regions.specs.Kept.{keptAt}
-use Rattle.regions.specs.Listed.{regionIn, sizeIn}
+use Rattle.regions.specs.Inner.{regionIn, sizeIn}
 use Rattle.regions.proofs.top.kept_regions.Statement.{statement}
 use Rattle.regions.proofs.top.kept_regions.Tie as tie
 
@@ -70,7 +70,7 @@ loop-again c =
     let l = now (a .labels) in
     let m = length (now (a .sizes)) in
     let which : getD (c .before .before .before .before .before .pick .result .at) (q .i) 0 ≡ keptAt (sizeIn l) m (q .i) =
-    p .which (q .i) (omega arith) ∙ kept-at-ext (binsOf (now (a .sizes))) (sizeIn l) m (e .pre .1 .1) (q .i) in (
+    p .which (q .i) (omega arith) ∙ kept-at-ext (valueAt (now (a .sizes))) (sizeIn l) m (e .pre .1 .1) (q .i) in (
       listing-turn (q .inv .0) (omega (arith, p .few)) (c .region-of .ensures ∙ ap (regionIn l (a .w) (a .h) (a .width) (a .height)) which),
       omega arith,
     )
@@ -84,7 +84,7 @@ returns c =
     let l = now (a .labels) in
     let m = length (now (a .sizes)) in
     let full : q .i ≡ p .result .kept = omega arith in
-    listing-end (rw full at (q .inv .0)) (p .ensures .many ∙ kept-of-ext (binsOf (now (a .sizes))) (sizeIn l) m (e .pre .1 .1))
+    listing-end (rw full at (q .inv .0)) (p .ensures .many ∙ kept-of-ext (valueAt (now (a .sizes))) (sizeIn l) m (e .pre .1 .1))
 
 pub kept-regions-spec : {M : Type 1} → statement M
 kept-regions-spec =

@@ -47,10 +47,11 @@ cast-t18 c = search needs
 
 returns : tie.Need-returns
 returns c =
-    let p = c .before .before .before .before .before .before .before .before in
+    let q = c .before .before .before .before .before .before in
+    let p = q .before .before in
     let a = p .args in
     region-is (now (a .labels)) (a .w) (a .h) (a .width) (a .height) (a .i) (add-one (a .i)) (p .pre .1 .1)
-    (c .before .before .before .before .before .before .span-of .ensures .1) (c .before .before .least .ensures)
+    (q .span-of .ensures .1) (c .before .before .least .ensures)
     (c .least2 .ensures)
 
 pub region-of-spec : {M : Type 1} → statement M

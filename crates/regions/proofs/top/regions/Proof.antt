@@ -4,7 +4,7 @@ use Prim.Native.Nat.{ℕ}
 use native.Mathlib.Omega.{arith}
 use borrow.Author.Needs.{needs}
 use denote.Ref.{now}
-use Rattle.regions.specs.Listed.{keptIn}
+use Rattle.regions.specs.Inner.{keptIn}
 use Rattle.regions.proofs.top.regions.Statement.{statement}
 use Rattle.regions.proofs.top.regions.Tie as tie
 

@@ -48,21 +48,23 @@ returns-4 c = search needs
 
 array-share-prefix-args : tie.Need-array-share-prefix-args
 array-share-prefix-args c =
-    let n = c .before .before .before .before .before .before .before .before .before .before .before .before .args .n in
-    let b = c .before .before .before .before .before .before .before .before .before .room .result in
-    let k : length (c .before .before .before .before .before .before .before .read .last .1 .0) ≡ length (take n b) =
-    c .before .before .before .before .before .before .before .read .kept .1 .0 in
-    refilled n (c .before .before .before .before .before .before .before .read .last .1 .0) b
-    (front n b (omega (arith, c .before .before .before .before .before .before .before .before .before .room .ensures)) ∙ sym k)
+    let q = c .before .before .before .before .before .before .before in
+    let n = q .before .before .before .before .before .args .n in
+    let b = q .before .before .room .result in
+    let k : length (q .read .last .1 .0) ≡ length (take n b) =
+    q .read .kept .1 .0 in
+    refilled n (q .read .last .1 .0) b
+    (front n b (omega (arith, q .before .before .room .ensures)) ∙ sym k)
 
 slice-aggregate-made : tie.Need-slice-aggregate-made
 slice-aggregate-made c =
-    let n = c .before .before .before .before .before .before .before .before .before .before .before .before .before .args .n in
-    let b = c .before .before .before .before .before .before .before .before .before .before .room .result in
-    let k : length (c .before .before .before .before .before .before .before .before .read .last .1 .0) ≡ length (take n b) =
-    c .before .before .before .before .before .before .before .before .read .kept .1 .0 in
-    front n _ (refilled n (c .before .before .before .before .before .before .before .before .read .last .1 .0) b
-    (front n b (omega (arith, c .before .before .before .before .before .before .before .before .before .before .room .ensures))
+    let q = c .before .before .before .before .before .before .before .before in
+    let n = q .before .before .before .before .before .args .n in
+    let b = q .before .before .room .result in
+    let k : length (q .read .last .1 .0) ≡ length (take n b) =
+    q .read .kept .1 .0 in
+    front n _ (refilled n (q .read .last .1 .0) b
+    (front n b (omega (arith, q .before .before .room .ensures))
     ∙ sym k))
 
 array-share-prefix-wanted : tie.Need-array-share-prefix-wanted
@@ -75,12 +77,13 @@ array-share-prefix-wanted c =
 
 slice-aggregate-made-2 : tie.Need-slice-aggregate-made-2
 slice-aggregate-made-2 c =
-    let m = c .before .before .before .before .before .before .before .before .before .before .before .before .before .before .args .m in
-    let b = c .before .before .before .before .before .before .room2 .result in
+    let q = c .before .before .before .before .before .before in
+    let m = q .before .before .before .before .before .before .before .before .args .m in
+    let b = q .room2 .result in
     let k : length (c .before .before .before .before .read2 .last .1 .0) ≡ length (take m b) =
     c .before .before .before .before .read2 .kept .1 .0 in
     front m _ (refilled m (c .before .before .before .before .read2 .last .1 .0) b
-    (front m b (omega (arith, c .before .before .before .before .before .before .room2 .ensures)) ∙ sym k))
+    (front m b (omega (arith, q .room2 .ensures)) ∙ sym k))
 
 made-requires : tie.Need-made-requires
 made-requires c κs = search needs

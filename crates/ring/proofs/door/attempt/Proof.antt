@@ -40,9 +40,10 @@ same-length-3 c = search needs
 returns : tie.Need-returns
 unfolding neededOf
 returns c =
-    let test = c .before .before .before .before .before .before .before .before .before .before in
+    let q = c .before .before .before .before .before .before in
+    let test = q .before .before .before .before in
     let a = test .before .before .before .before .before .before .before .args in
-    let r = c .before .before .before .before .before .before .attempt .ensures in (
+    let r = q .attempt .ensures in (
       given-is (now (a .gray)) (a .width) (a .height) (now (a .points)) (a .most) (length (now (a .straight))) (length (now (a .cand)))
           (length (now (a .buf))) _ (sym (test .before .check .ensures) ∙ test .if1 .taken) (r .0),
       (r .1 .0, (r .1 .1 .0, r .1 .1 .1)),

@@ -1,8 +1,8 @@
 -- `ring::refusals::check` meets its contract: a refusal of the picture's checks stands whatever follows (check-off), and where they pass
 -- what follows counts (check-on). Assumes nothing.
-use mathlib.Core.Path.{_≡_, sym, _∙_}
+use mathlib.Core.Path.{sym, _∙_}
 use borrow.Author.Needs.{needs}
-use Rattle.checks.proofs.Checked.{check-on, check-off}
+use Rattle.picture_checks.proofs.Checked.{check-on, check-off}
 use Rattle.ring.proofs.refusals.check.Statement.{statement}
 use Rattle.ring.proofs.refusals.check.Tie as tie
 

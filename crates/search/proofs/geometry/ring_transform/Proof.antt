@@ -30,8 +30,9 @@ with-lens-requires c κs = search needs
 
 returns-2 : tie.Need-returns-2
 returns-2 c =
-    let a = c .before .before .before .before .before .before .before .args in
-    map-some (a .q) (a .side) (a .l) _ _ _ (c .before .before .before .before .before .before .ring-numbers .ensures)
+    let q = c .before .before .before .before .before .before in
+    let a = q .before .args in
+    map-some (a .q) (a .side) (a .l) _ _ _ (q .ring-numbers .ensures)
     (c .before .before .before .before .before .corner-numbers .ensures) (c .before .before .before .before .from-quad .ensures) _
     (c .before .before .t .given .1) (c .with-lens .ensures)
 

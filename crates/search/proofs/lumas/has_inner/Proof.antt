@@ -29,9 +29,10 @@ is-at-requires c κs = search needs
 
 returns : tie.Need-returns
 returns c =
-    let a = c .before .before .before .before .before .before .before .args in
-    let g = c .before .before .before .before .before .before .before .pre .greatest in
-    inner-yes (a .v .0) (a .p) _ (c .before .before .before .before .before .before .is-two-deep .ensures) _ _
+    let q = c .before .before .before .before .before .before in
+    let a = q .before .args in
+    let g = q .before .pre .greatest in
+    inner-yes (a .v .0) (a .p) _ (q .is-two-deep .ensures) _ _
     (c .before .before .before .before .before .if1 .taken) (place-back (a .v .0) (a .p) _ _ (omega arith)
     (c .before .before .before .before .inner-cell .ensures) (c .before .position .ensures)) (c .is-at .ensures)
 

@@ -6,13 +6,13 @@ use native.Mathlib.Omega.{arith}
 use Prim.Native.Nat.{_≤_, _-_}
 use mathlib.Core.Path.{_≡_, refl}
 use Rattle.search.proofs.LumaLists.{listed-none, listed-turn, listed-done}
-use Rattle.search.specs.Lumas.{lumaAt, listed, lumasOf}
+use Rattle.search.specs.Lumas.{lumaAt, lumasListed, lumasOf}
 use Rattle.lcr_core.specs.Version.{positionsOf}
 use Rattle.search.proofs.lumas.ring_lumas.Statement.{statement}
 use Rattle.search.proofs.lumas.ring_lumas.Tie as tie
 
 abbrev Inv-loop : tie.InvT-loop
-Inv-loop gray w h t v out₀ n p₀ out p = (p ≤ n) × (length out ≡ n) × (take p out ≡ listed p (lumaAt gray w h t (v .0)))
+Inv-loop gray w h t v out₀ n p₀ out p = (p ≤ n) × (length out ≡ n) × (take p out ≡ lumasListed p (lumaAt gray w h t (v .0)))
 
 abbrev μ-loop : tie.MeasureT-loop
 μ-loop gray w h t v out₀ n p₀ out p = n - p

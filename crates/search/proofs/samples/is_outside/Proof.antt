@@ -28,13 +28,15 @@ returns-3 c =
 
 int-to-float-result : tie.Need-int-to-float-result
 int-to-float-result c =
-    let z = c .before .before .before .before .before .before .before .before .pre in
-    small-float (c .before .before .before .before .before .before .before .before .args .h) (omega arith)
+    let q = c .before .before .before .before .before .before .before .before in
+    let z = q .pre in
+    small-float (q .args .h) (omega arith)
 
 returns-4 : tie.Need-returns-4
 returns-4 c =
-    let a = c .before .before .before .before .before .before .before .before .before .args in
-    out-high (a .w) (a .h) (a .p) (c .before .before .before .before .before .before .before .if1 .left)
+    let q = c .before .before .before .before .before .before .before in
+    let a = q .before .before .args in
+    out-high (a .w) (a .h) (a .p) (q .if1 .left)
     (c .before .before .before .before .before .if2 .left) (c .before .before .if3 .left)
 
 pub is-outside-spec : {M : Type 1} → statement M

@@ -19,9 +19,10 @@ add-sample-requires c κs = search needs
 
 returns : tie.Need-returns
 returns c =
-    let a = c .before .before .before .before .before .before .before .args in
+    let q = c .before .before .before .before .before .before .before in
+    let a = q .args in
     point-is (a .gray .now) (a .w) (a .h) (a .t) (a .cell) (a .du) (a .dv) (a .s) _ _
-    (c .before .before .before .before .before .before .before .pre .1) (c .before .apply .ensures) (c .add-sample .ensures)
+    (q .pre .1) (c .before .apply .ensures) (c .add-sample .ensures)
 
 pub sample-point-spec : {M : Type 1} → statement M
 sample-point-spec =

@@ -37,30 +37,32 @@ array-share-prefix-marks c =
 
 slice-aggregate-correlate : tie.Need-slice-aggregate-correlate
 slice-aggregate-correlate c =
-    let a = c .before .before .before .before .before .before .args in
+    let u = c .before .before .before .before .before .before in
+    let a = u .args in
     let e = c .before .before .before .before .mark-room .ensures in
-    let q = c .before .before .before .before .before .before .pre .1 in
-    let g = c .before .before .before .before .before .before .pre .0 .greatest in
-    let m = marked (a .version) (a .lumas .now) (c .before .before .before .before .before .before .pre .0)
-    (c .before .before .before .before .before .before .pre .1) _ _ _ (length-take-le _ _ (omega arith))
+    let q = u .pre .1 in
+    let g = u .pre .0 .greatest in
+    let m = marked (a .version) (a .lumas .now) (u .pre .0)
+    (u .pre .1) _ _ _ (length-take-le _ _ (omega arith))
     (c .before .before .classify .ensures .0) (c .before .before .classify .ensures .1) in
-    front-long (a .version) (a .lumas .now) (c .before .before .before .before .before .before .pre .0)
-    (c .before .before .before .before .before .before .pre .1) _ _ m
+    front-long (a .version) (a .lumas .now) (u .pre .0)
+    (u .pre .1) _ _ m
 
 correlate-requires : tie.Need-correlate-requires
 correlate-requires c κs = search needs
 
 returns : tie.Need-returns
 returns c =
-    let a = c .before .before .before .before .before .before .before .args in
+    let u = c .before .before .before .before .before .before .before in
+    let a = u .args in
     let e = c .before .before .before .before .before .mark-room .ensures in
-    let q = c .before .before .before .before .before .before .before .pre .1 in
-    let g = c .before .before .before .before .before .before .before .pre .0 .greatest in
-    let m = marked (a .version) (a .lumas .now) (c .before .before .before .before .before .before .before .pre .0)
-    (c .before .before .before .before .before .before .before .pre .1) _ _ _ (length-take-le _ _ (omega arith))
+    let q = u .pre .1 in
+    let g = u .pre .0 .greatest in
+    let m = marked (a .version) (a .lumas .now) (u .pre .0)
+    (u .pre .1) _ _ _ (length-take-le _ _ (omega arith))
     (c .before .before .before .classify .ensures .0) (c .before .before .before .classify .ensures .1) in
-    pose-is (a .version) (a .lumas .now) (c .before .before .before .before .before .before .before .pre .0)
-    (c .before .before .before .before .before .before .before .pre .1) _ _ m _ (c .correlate .ensures .0)
+    pose-is (a .version) (a .lumas .now) (u .pre .0)
+    (u .pre .1) _ _ m _ (c .correlate .ensures .0)
 
 pub pose-of-spec : {M : Type 1} → statement M
 pose-of-spec =

@@ -40,24 +40,26 @@ array-borrow-prefix-lumas c =
 
 slice-aggregate-ring-lumas : tie.Need-slice-aggregate-ring-lumas
 slice-aggregate-ring-lumas c =
-    let k = version-known _ _ _ (c .before .before .before .before .before .before .new .ensures)
+    let q = c .before .before .before .before .before .before in
+    let k = version-known _ _ _ (q .new .ensures)
     (c .before .before .before .before .v .given .1) .1 in
     let p = c .before .positions .ensures in
     let e = c .before .before .luma-room .ensures in
-    let g = c .before .before .before .before .before .before .before .before .pre .1 .greatest in
+    let g = q .before .before .pre .1 .greatest in
     sym (length-take-le _ _ (room-for _ _ _ _ k p e g))
 
 ring-lumas-requires : tie.Need-ring-lumas-requires
 ring-lumas-requires c κs =
-    let k = version-known _ _ _ (c .before .before .before .before .before .before .new .ensures)
+    let q = c .before .before .before .before .before .before in
+    let k = version-known _ _ _ (q .new .ensures)
     (c .before .before .before .before .v .given .1) .1 in
     let p = c .before .positions .ensures in
     let e = c .before .before .luma-room .ensures in
-    let g = c .before .before .before .before .before .before .before .before .pre .1 .greatest in (
-      c .before .before .before .before .before .before .before .before .pre .0,
+    let g = q .before .before .pre .1 .greatest in (
+      q .before .before .pre .0,
       (
         subst IsVersion (sym k)
-            (c .before .before .before .before .before .before .before .before .pre .1),
+            (q .before .before .pre .1),
         length-take-le _ _
             (room-for _ _ _ _ k p e g) ∙ p,
       ),
@@ -77,10 +79,11 @@ slice-aggregate-pose-of c =
 
 pose-of-requires : tie.Need-pose-of-requires
 pose-of-requires c κs =
-    let a = c .before .before .before .before .before .before .before .before .before .before .before .args in
-    let k = version-known _ _ _ (c .before .before .before .before .before .before .before .before .before .new .ensures)
-    (c .before .before .before .before .before .before .before .v .given .1) .1 in (
-      c .before .before .before .before .before .before .before .before .before .before .before .pre .1,
+    let q = c .before .before .before .before .before .before .before in
+    let a = q .before .before .before .before .args in
+    let k = version-known _ _ _ (q .before .before .new .ensures)
+    (q .v .given .1) .1 in (
+      q .before .before .before .before .pre .1,
       sym (lumas-fit (a .gray .now)
           (a .w) (a .h) (a .t) _ _ _ _ (c .before .before .before .before .positions .ensures)
           (c .before .before .ring-lumas .ensures)) ∙ c .before .before .before .before .positions .ensures ∙ ap positionsOf k,
@@ -91,11 +94,12 @@ score-by-requires c κs = search needs
 
 returns-2 : tie.Need-returns-2
 returns-2 c =
-    let a = c .before .before .before .before .before .before .before .before .before .before .before .before .before .args in
+    let q = c .before .before .before .before .before .before in
+    let a = q .before .before .before .before .before .before .before .args in
     let k = version-known _ _ _
-    (c .before .before .before .before .before .before .before .before .before .before .before .new .ensures)
-    (c .before .before .before .before .before .before .before .before .before .v .given .1) .1 in
-    read-is (a .gray .now) (a .w) (a .h) (a .t) _ _ _ _ (c .before .before .before .before .before .before .positions .ensures)
+    (q .before .before .before .before .before .new .ensures)
+    (q .before .before .before .v .given .1) .1 in
+    read-is (a .gray .now) (a .w) (a .h) (a .t) _ _ _ _ (q .positions .ensures)
     (c .before .before .before .before .ring-lumas .ensures) (a .version) _ _ k (c .before .pose-of .ensures) (c .score-by .ensures)
 
 pub read-ring-spec : {M : Type 1} → statement M

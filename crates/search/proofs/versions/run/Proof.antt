@@ -5,12 +5,12 @@ use native.Mathlib.Omega.{arith}
 use mathlib.Core.Path.{_≡_, _∙_, sym, ap, subst}
 use borrow.Author.Needs.{needs}
 use Rattle.search.proofs.Searches.{start-held, steps-step, steps-stay, steps-end}
-use Rattle.search.specs.Versions.{Held, stepsOn, searchOf}
+use Rattle.search.specs.Versions.{ScoreRoom, stepsOn, searchOf}
 use Rattle.search.proofs.versions.run.Statement.{statement}
 use Rattle.search.proofs.versions.run.Tie as tie
 
 abbrev Inv-loop : tie.InvT-loop
-Inv-loop gray w h g s₀ k₀ s k = Held s × (stepsOn gray w h g (65 - k) k s ≡ searchOf gray w h g)
+Inv-loop gray w h g s₀ k₀ s k = ScoreRoom s × (stepsOn gray w h g (65 - k) k s ≡ searchOf gray w h g)
 
 abbrev μ-loop : tie.MeasureT-loop
 μ-loop gray w h g s₀ k₀ s k = 65 - k
@@ -21,7 +21,7 @@ start-requires c κs = search needs
 loop-holds : tie.Need-loop-holds Inv-loop μ-loop
 loop-holds c =
     let a = c .before .before .args in
-    (subst Held (sym (c .start .ensures)) start-held, ap (stepsOn (a .gray .now) (a .w) (a .h) (a .g) 65 0) (c .start .ensures))
+    (subst ScoreRoom (sym (c .start .ensures)) start-held, ap (stepsOn (a .gray .now) (a .w) (a .h) (a .g) 65 0) (c .start .ensures))
 
 cast-loop : tie.Need-cast-loop Inv-loop μ-loop
 cast-loop c = search needs

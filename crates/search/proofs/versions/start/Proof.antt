@@ -2,7 +2,7 @@
 use mathlib.Core.Path.{ap}
 use mathlib.Core.Bool.{false}
 use borrow.Author.Needs.{needs}
-use Rattle.search.specs.Versions.{startOf, repeated}
+use Rattle.search.specs.Versions.{noneTried, repeated}
 use Rattle.search.specs.declared.versions.Score.{Score}
 use Rattle.search.proofs.versions.start.Statement.{statement}
 use Rattle.search.proofs.versions.start.Tie as tie
@@ -11,7 +11,7 @@ no-score-requires : tie.Need-no-score-requires
 no-score-requires c κs = search needs
 
 returns : tie.Need-returns
-unfolding startOf repeated
+unfolding noneTried repeated
 returns c = ap (λ (x : Score). record { next = 1; ended = false; scores = record { many = 0; list = repeated 64 x } })
     (c .no-score .ensures)
 

@@ -36,8 +36,9 @@ add-t14 c = search needs
 
 returns-2 : tie.Need-returns-2
 returns-2 c =
-    let a = c .before .before .before .before .before .before .before .before .before .args in
-    scored (a .gray .now) (a .w) (a .h) (a .g) (a .s) _ _ (c .before .before .before .before .before .before .side-of .ensures)
+    let q = c .before .before .before .before .before .before in
+    let a = q .before .before .before .args in
+    scored (a .gray .now) (a .w) (a .h) (a .g) (a .s) _ _ (q .side-of .ensures)
     (c .before .before .before .before .before .ring-transform .ensures) _ _ (c .before .before .before .t .given .1)
     (c .before .read-ring .ensures) (c .push .ensures)
 

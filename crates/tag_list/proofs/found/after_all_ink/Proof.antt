@@ -3,7 +3,7 @@ use mathlib.Core.Path.{ap, _∙_}
 use native.Mathlib.Omega.{arith}
 use denote.Ref.{now}
 use Rattle.laws.specs.Plane.{plane}
-use Rattle.finder.specs.Find.{tryOf, bestOf}
+use Rattle.finder.specs.Find.{tryOf, bestTrace}
 use Rattle.finder.proofs.Regions.{tries-two, tries-one, tries-is, worked-none}
 use borrow.Author.Needs.{needs}
 use Rattle.tag_list.proofs.found.after_all_ink.Statement.{statement}
@@ -26,22 +26,21 @@ same-length-4 c = search needs
 
 returns : tie.Need-returns
 returns c =
-    let a = c .before .before .before .before .before .before .before .before .before .before .before .before .before .before
-    .before .before .before .before .before .before .before .before .args in
-    let p = c .before .before .before .before .before .before .before .before .before .before .before .before .before .before
-    .before .before .before .before .before .before .before .before .pre in
-    let t = c .before .before .before .before .before .before .before .before .try-next .ensures in (
-      t .0 ∙ ap (bestOf (tryOf (now (a .gray)) (a .w) (a .h) (a .most)))
-          (tries-is (plane (a .w) (now (a .gray))) (a .w) (a .h) (a .k) (p .1 .1 .0) _ (tries-two (a .k) (c .before .before .before
-          .before .before .before .before .before .before .before .before .before .before .if1 .taken))),
+    let q = c .before .before .before .before .before .before .before .before in
+    let a = q .before .before .before .before .before .before .before .before .before .before .before .before .before .before .args in
+    let p = q .before .before .before .before .before .before .before .before .before .before .before .before .before .before .pre in
+    let t = q .try-next .ensures in (
+      t .0 ∙ ap (bestTrace (tryOf (now (a .gray)) (a .w) (a .h) (a .most)))
+          (tries-is (plane (a .w) (now (a .gray))) (a .w) (a .h) (a .k) (p .1 .1 .0) _ (tries-two (a .k) (q .before .before .before .before .before .if1 .taken))),
       t .1,
     )
 
 returns-2 : tie.Need-returns-2
 returns-2 c =
-    let a = c .before .before .before .before .before .before .before .before .before .args in
-    let p = c .before .before .before .before .before .before .before .before .before .pre in (
-      p .1 .1 .1 .1 .0 ∙ ap (bestOf (tryOf (now (a .gray)) (a .w) (a .h) (a .most)))
+    let q = c .before .before .before .before .before .before .before .before .before in
+    let a = q .args in
+    let p = q .pre in (
+      p .1 .1 .1 .1 .0 ∙ ap (bestTrace (tryOf (now (a .gray)) (a .w) (a .h) (a .most)))
           (tries-is (plane (a .w) (now (a .gray))) (a .w) (a .h) (a .k) (p .1 .1 .0) _ (tries-one (a .k) (omega (arith, c .if1 .left)))),
       worked-none _ _ _ _ _,
     )

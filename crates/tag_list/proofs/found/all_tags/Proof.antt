@@ -25,11 +25,10 @@ same-length-4 c = search needs
 
 returns : tie.Need-returns
 returns c =
-    let a = c .before .before .before .before .before .before .before .before .before .before .before .before .before .before
-    .before .before .before .before .before .before .before .before .before .args in
-    let p = c .before .before .before .before .before .before .before .before .before .before .before .before .before .before
-    .before .before .before .before .before .before .before .before .before .pre in
-    let s = c .before .before .before .before .before .before .before .before .before .before .before .sweep in (
+    let q = c .before .before .before .before .before .before .before .before .before .before .before in
+    let a = q .before .before .before .before .before .before .before .before .before .before .before .before .args in
+    let p = q .before .before .before .before .before .before .before .before .before .before .before .before .pre in
+    let s = q .sweep in (
       own-stand (now (a .gray)) (a .w) (a .h) (a .most) (a .k .kept)
           (kept-is (plane (a .w) (now (a .gray))) (a .w) (a .h) (a .k) (p .1 .1 .0)) (s .result .tags) (s .ensures .0 .tags)
           (c .if1 .taken),
@@ -38,10 +37,9 @@ returns c =
 
 found-tag-requires : tie.Need-found-tag-requires
 found-tag-requires c κs =
-    let p = c .before .before .before .before .before .before .before .before .before .before .before .before .before .before
-    .before .before .before .before .before .before .before .before .before .before .before .before .before .before .pre in
-    let s = c .before .before .before .before .before .before .before .before .before .before .before .before .before .before
-    .before .before .sweep in
+    let q = c .before .before .before .before .before .before .before .before .before .before .before .before .before .before .before .before in
+    let p = q .before .before .before .before .before .before .before .before .before .before .before .before .pre in
+    let s = q .sweep in
     (p .0, (p .1 .0, (p .1 .1 .0, (p .1 .1 .1 .0, (s .ensures .0 .best, roomy-then (p .1 .1 .1 .1) (s .ensures .1))))))
 
 same-length-5 : tie.Need-same-length-5
@@ -58,21 +56,16 @@ same-length-8 c = search needs
 
 returns-2 : tie.Need-returns-2
 returns-2 c =
-    let a = c .before .before .before .before .before .before .before .before .before .before .before .before .before .before
-    .before .before .before .before .before .before .before .before .before .before .before .before .before .before .before
-    .before .before .before .before .before .before .before .before .args in
-    let p = c .before .before .before .before .before .before .before .before .before .before .before .before .before .before
-    .before .before .before .before .before .before .before .before .before .before .before .before .before .before .before
-    .before .before .before .before .before .before .before .before .pre in
-    let s = c .before .before .before .before .before .before .before .before .before .before .before .before .before .before
-    .before .before .before .before .before .before .before .before .before .before .before .sweep in
-    let t = c .before .before .before .before .before .before .before .before .found-tag in (
+    let q = c .before .before .before .before .before .before .before .before in
+    let a = q .before .before .before .before .before .before .before .before .before .before .before .before .before .before .before .before .before .before .before .before .before .before .before .before .before .before .before .before .before .args in
+    let p = q .before .before .before .before .before .before .before .before .before .before .before .before .before .before .before .before .before .before .before .before .before .before .before .before .before .before .before .before .before .pre in
+    let s = q .before .before .before .before .before .before .before .before .before .before .before .before .before .before .before .before .before .sweep in
+    let t = q .found-tag in (
       found-stand (now (a .gray)) (a .w) (a .h) (a .most) (a .k .kept)
           (kept-is (plane (a .w) (now (a .gray))) (a .w) (a .h) (a .k) (p .1 .1 .0)) (s .result .tags) (s .ensures .0 .tags) _
           (omega (
             arith,
-            c .before .before .before .before .before .before .before .before .before .before .before .before
-                .before .before .if1 .left,
+            q .before .before .before .before .before .before .if1 .left,
           )) (t .ensures .0),
       worked-then (s .ensures .1) (t .ensures .1),
     )

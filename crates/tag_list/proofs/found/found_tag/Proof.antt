@@ -39,9 +39,9 @@ same-length-4 c = search needs
 
 returns : tie.Need-returns
 returns c =
-    let a = c .before .before .before .before .before .before .before .before .before .before .before .before .before .before
-    .before .before .before .before .before .before .before .before .before .args in
-    let t = c .before .before .before .before .before .before .before .before .before .before .before .after-all-ink in
+    let q = c .before .before .before .before .before .before .before .before .before .before .before in
+    let a = q .before .before .before .before .before .before .before .before .before .before .before .before .args in
+    let t = q .after-all-ink in
     let p = c .before .before .promoted in (
       c .with-fix .ensures ∙ ap (λ (g : Tags). withFix g (p .result .fix)) (c .before .no-tags .ensures)
           ∙ with-fix-is [] (p .result .fix) (omega arith)

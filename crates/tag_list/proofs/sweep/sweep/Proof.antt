@@ -38,10 +38,9 @@ loop-holds c =
 
 sweep-next-requires : tie.Need-sweep-next-requires Inv-loop μ-loop
 sweep-next-requires c κs =
-    let p = c .before .before .before .before .before .before .before .before .before .before .before .before .before .before
-    .before .pre in
-    let a = c .before .before .before .before .before .before .before .before .before .before .before .before .before .before
-    .before .args in
+    let u = c .before .before .before .before .before .before .before .before .before .before .before .before .before .before .before in
+    let p = u .pre in
+    let a = u .args in
     let q = c .before .before .before .before .before .loop .inv in
     let four = kept-four (plane (a .w) (now (a .gray))) (a .w) (a .h) (a .k) (p .1 .1 .0) in (
       p .0,
@@ -66,15 +65,13 @@ sweep-next-requires c κs =
 
 add-i : tie.Need-add-i Inv-loop μ-loop
 add-i c =
-    let p = c .before .before .before .before .before .before .before .before .before .before .before .before .before .before
-    .before .before .before .before .before .before .before .before .before .before .pre in
-    let a = c .before .before .before .before .before .before .before .before .before .before .before .before .before .before
-    .before .before .before .before .before .before .before .before .before .before .args in
+    let q = c .before .before .before .before .before .before .before .before .before .before .before .before .before in
+    let p = q .before .before .before .before .before .before .before .before .before .before .before .pre in
+    let a = q .before .before .before .before .before .before .before .before .before .before .before .args in
     omega (
       arith,
       kept-four (plane (a .w) (now (a .gray))) (a .w) (a .h) (a .k) (p .1 .1 .0),
-      c .before .before .before .before
-          .before .before .before .before .before .before .before .before .before .loop-test .taken,
+      q .loop-test .taken,
     )
 
 loop-less : tie.Need-loop-less Inv-loop μ-loop
@@ -82,9 +79,10 @@ loop-less c = search needs
 
 loop-again : tie.Need-loop-again Inv-loop μ-loop
 loop-again c =
-    let q = c .before .before .before .before .before .before .before .before .before .before .before .before .before .before
+    let u = c .before .before .before .before .before .before .before .before in
+    let q = u .before .before .before .before .before .before
     .loop .inv in
-    let t = c .before .before .before .before .before .before .before .before .sweep-next .ensures in
+    let t = u .sweep-next .ensures in
     (omega arith, t .0, worked-then (q .2) (t .1))
 
 same-length : tie.Need-same-length Inv-loop μ-loop

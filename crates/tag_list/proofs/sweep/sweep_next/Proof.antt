@@ -12,14 +12,16 @@ use Rattle.tag_list.proofs.sweep.sweep_next.Tie as tie
 
 region-of-requires : tie.Need-region-of-requires
 region-of-requires c κs =
-    let p = c .before .before .before .before .before .before .before .pre in
-    let a = c .before .before .before .before .before .before .before .args in
+    let q = c .before .before .before .before .before .before .before in
+    let p = q .pre in
+    let a = q .args in
     (kept-four (plane (a .w) (now (a .gray))) (a .w) (a .h) (a .k) (p .1 .1 .0), (p .0 .wide .1, p .0 .high .1))
 
 try-one-requires : tie.Need-try-one-requires
 try-one-requires c κs =
-    let p = c .before .before .before .before .before .before .before .before .before .before .before .before .pre in
-    let a = c .before .before .before .before .before .before .before .before .before .before .before .before .args in
+    let q = c .before .before .before .before .before .before .before .before .before .before .before .before in
+    let p = q .pre in
+    let a = q .args in
     let r = c .before .before .before .before .region-of in (
       p .0,
       (
@@ -34,21 +36,19 @@ try-one-requires c κs =
 
 standing-requires : tie.Need-standing-requires
 standing-requires c κs =
-    let p = c .before .before .before .before .before .before .before .before .before .before .before .before .before .before
-    .before .before .before .before .before .before .before .before .before .pre in
-    let a = c .before .before .before .before .before .before .before .before .before .before .before .before .before .before
-    .before .before .before .before .before .before .before .before .before .args in
-    let t = c .before .before .before .before .before .before .before .before .before .before .try-one in (
+    let q = c .before .before .before .before .before .before .before .before .before .before in
+    let p = q .before .before .before .before .before .before .before .before .before .before .before .before .before .pre in
+    let a = q .before .before .before .before .before .before .before .before .before .before .before .before .before .args in
+    let t = q .try-one in (
       tries-few (now (a .gray)) (a .w) (a .h) (a .most) (p .1 .1 .1 .0) (a .i) (a .s .best) (p .1 .1 .1 .1 .1 .0 .best),
       subst Few (sym (t .ensures .0)) (attempt-few (now (a .gray)) (a .w) (a .h) (a .most) (p .1 .1 .1 .0) _),
     )
 
 with-fix-requires : tie.Need-with-fix-requires
 with-fix-requires c κs =
-    let p = c .before .before .before .before .before .before .before .before .before .before .before .before .before .before
-    .before .before .before .before .before .before .before .before .before .before .pre in
-    let a = c .before .before .before .before .before .before .before .before .before .before .before .before .before .before
-    .before .before .before .before .before .before .before .before .before .before .args in
+    let q = c .before .before .before .before .before .before .before .before .before .before .before .before .before .before .before .before .before .before .before .before .before .before .before .before in
+    let p = q .pre in
+    let a = q .args in
     after-few (now (a .gray)) (a .w) (a .h) (a .most) (a .i) (a .s) (p .1 .1 .1 .1 .1 .0) (p .1 .1 .1 .1 .0)
 
 same-length : tie.Need-same-length
@@ -65,13 +65,11 @@ same-length-4 c = search needs
 
 returns : tie.Need-returns
 returns c =
-    let p = c .before .before .before .before .before .before .before .before .before .before .before .before .before .before
-    .before .before .before .before .before .before .before .before .before .before .before .pre in
-    let a = c .before .before .before .before .before .before .before .before .before .before .before .before .before .before
-    .before .before .before .before .before .before .before .before .before .before .before .args in
-    let r = c .before .before .before .before .before .before .before .before .before .before .before .before .before .before
-    .before .before .before .region-of in
-    let t = c .before .before .before .before .before .before .before .before .before .before .before .before .try-one in (
+    let q = c .before .before .before .before .before .before .before .before .before .before .before .before in
+    let p = q .before .before .before .before .before .before .before .before .before .before .before .before .before .pre in
+    let a = q .before .before .before .before .before .before .before .before .before .before .before .before .before .args in
+    let r = q .before .before .before .before .before .region-of in
+    let t = q .try-one in (
       after-next (now (a .gray)) (a .w) (a .h) (a .most) (a .i) (a .s) (p .1 .1 .1 .1 .1 .0) (p .1 .1 .1 .1 .0) (t .result) _ _
           (try-is (now (a .gray)) (a .w) (a .h) (a .most) (a .i) _ _
           (region-tried (plane (a .w) (now (a .gray))) (a .w) (a .h) (a .k) (p .1 .1 .0) (a .i) (r .result) (r .ensures)) (t .ensures .0))

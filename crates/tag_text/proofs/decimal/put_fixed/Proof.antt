@@ -22,9 +22,10 @@ same-length c = search needs
 
 returns : tie.Need-returns
 returns c =
-    let a = c .before .before .before .before .before .before .before .before .before .before .before .before .args in
-    let f = c .before .before .before .before .before .before .is-far in
-    let s = c .before .before .before .before .before .before .before .before .before .put-byte .ensures in
+    let q = c .before .before .before .before .before .before in
+    let a = q .before .before .before .before .before .before .args in
+    let f = q .is-far in
+    let s = q .before .before .before .put-byte .ensures in
     let w = c .before .before .put-word .ensures in (
       far-stored (a .digits) (a .x) (f .result) (f .ensures) s (c .before .before .before .before .before .if1 .taken) w,
       omega (
@@ -46,9 +47,10 @@ same-length-2 c = search needs
 
 returns-2 : tie.Need-returns-2
 returns-2 c =
-    let a = c .before .before .before .before .before .before .before .before .before .before .before .before .args in
-    let f = c .before .before .before .before .before .before .is-far in
-    let s = c .before .before .before .before .before .before .before .before .before .put-byte .ensures in
+    let q = c .before .before .before .before .before .before in
+    let a = q .before .before .before .before .before .before .args in
+    let f = q .is-far in
+    let s = q .before .before .before .put-byte .ensures in
     let n = c .before .before .before .before .scale in
     let p = c .before .before .put-pointed .ensures in (
       near-stored (a .digits) (a .x) (f .result) (f .ensures) s (n .result) (n .ensures) (c .before .before .before .before .before .if1

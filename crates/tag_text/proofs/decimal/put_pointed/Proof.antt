@@ -29,17 +29,16 @@ same-length c = search needs
 
 returns : tie.Need-returns
 returns c =
-    let a = c .before .before .before .before .before .before .before .before .before .before .before .before .before .before .before
-    .before .before .before .args in
-    let m = c .before .before .before .before .before .before .before .before .before .before .before .before .before .before .before
+    let q = c .before .before .before .before .before .before in
+    let a = q .before .before .before .before .before .before .before .before .before .before .before .before .args in
+    let m = q .before .before .before .before .before .before .before .before .before
     .is-minus in
-    let s = c .before .before .before .before .before .before .before .before .before .before .before .before .before .before .put-sign
+    let s = q .before .before .before .before .before .before .before .before .put-sign
     .ensures in
-    let w = c .before .before .before .before .before .before .before .before .before .before .put-whole .ensures in
-    let p = c .before .before .before .before .before .before .put-byte .ensures in
+    let w = q .before .before .before .before .put-whole .ensures in
+    let p = q .put-byte .ensures in
     let d = c .before .before .put-digits .ensures in (
-      pointed-stored (a .digits) (a .unit) (a .n) (a .x) (m .result) (c .before .before .before .before .before .before .before .before
-          .before .before .before .before .before .before .before .before .before .before .pre .0 .0) (m .ensures) (s .0) (w .0) p d,
+      pointed-stored (a .digits) (a .unit) (a .n) (a .x) (m .result) (q .before .before .before .before .before .before .before .before .before .before .before .before .pre .0 .0) (m .ensures) (s .0) (w .0) p d,
       omega (arith, s .1, w .1, p .next, d .next, last-length (a .digits) (a .n)),
     )
 

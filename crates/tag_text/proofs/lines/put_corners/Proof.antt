@@ -22,13 +22,13 @@ same-length c = search needs
 
 returns : tie.Need-returns
 returns c =
-    let p = c .before .before .before .before .before .before .before .before .before .before .before .before .before .before .put-point
+    let u = c .before .before .before .before .before .before in
+    let p = u .before .before .before .before .before .before .before .before .put-point
     .ensures in
-    let q = c .before .before .before .before .before .before .before .before .before .before .put-point2 .ensures in
-    let r = c .before .before .before .before .before .before .put-point3 .ensures in
+    let q = u .before .before .before .before .put-point2 .ensures in
+    let r = u .put-point3 .ensures in
     let s = c .before .before .put-point4 .ensures in (
-      corners-stored (c .before .before .before .before .before .before .before .before .before .before .before .before .before .before
-          .before .before .before .before .before .before .before .args .q) (p .0) (q .0) (r .0) (s .0),
+      corners-stored (u .before .before .before .before .before .before .before .before .before .before .before .before .before .before .before .args .q) (p .0) (q .0) (r .0) (s .0),
       omega (
         arith,
         p .1,

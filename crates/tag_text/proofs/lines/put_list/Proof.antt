@@ -43,8 +43,9 @@ loop-less c = search needs
 
 loop-again : tie.Need-loop-again Inv-loop μ-loop
 loop-again c =
-    let a = c .before .before .before .before .before .before .before .before .args in
-    let q = c .before .before .before .before .before .before .loop in
+    let u = c .before .before .before .before .before .before in
+    let a = u .before .before .args in
+    let q = u .loop in
     let p = c .before .before .put-tag in
     let within : q .k < length (a .t3) = search needs in
     (omega arith, list-turn (a .t3) (q .k) within (q .inv .1) (p .ensures .0), omega (arith, p .ensures .1, q .inv .2))

@@ -16,9 +16,10 @@ same-length c = search needs
 
 returns : tie.Need-returns
 returns c =
-    let x = c .before .before .before .before .before .before .put-fixed .ensures in
+    let q = c .before .before .before .before .before .before in
+    let x = q .put-fixed .ensures in
     let y = c .before .before .put-fixed2 .ensures in (
-      point-stored (c .before .before .before .before .before .before .before .before .before .args .p) (x .0) (y .0),
+      point-stored (q .before .before .before .args .p) (x .0) (y .0),
       omega (
         arith,
         x .1,

@@ -31,14 +31,13 @@ same-length c = search needs
 
 returns : tie.Need-returns
 returns c =
-    let a = c .before .before .before .before .before .before .before .before .before .before .before .before .before .before .before
-    .before .before .before .before .before .before .before .before .args in
-    let v = c .before .before .before .before .before .before .before .before .before .before .before .before .before .before .before
-    .before .before .before .before .put-word .ensures in
-    let m = c .before .before .before .before .before .before .before .before .before .before .before .before .before .before .before
+    let u = c .before .before .before .before .before .before in
+    let a = u .before .before .before .before .before .before .before .before .before .before .before .before .before .before .before .before .before .args in
+    let v = u .before .before .before .before .before .before .before .before .before .before .before .before .before .put-word .ensures in
+    let m = u .before .before .before .before .before .before .before .before .before
     .put-answer .ensures in
-    let w = c .before .before .before .before .before .before .before .before .before .before .put-word2 .ensures in
-    let q = c .before .before .before .before .before .before .put-corners .ensures in
+    let w = u .before .before .before .before .put-word2 .ensures in
+    let q = u .put-corners .ensures in
     let e = c .before .before .put-byte .ensures in
     (pose-stored (a .mirrored) (a .corners) v (m .0) w (q .0) e, omega (arith, v .next, m .1, w .next, q .1, e .next))
 

@@ -22,10 +22,11 @@ same-length c = search needs
 
 returns : tie.Need-returns
 returns c =
-    let w = c .before .before .before .before .before .before .before .before .before .before .put-word .ensures in
-    let n = c .before .before .before .before .before .before .put-count .ensures in
+    let q = c .before .before .before .before .before .before in
+    let w = q .before .before .before .before .put-word .ensures in
+    let n = q .put-count .ensures in
     let e = c .before .before .put-byte .ensures in (
-      refused-stored (c .before .before .before .before .before .before .before .before .before .before .before .before .before .before
+      refused-stored (q .before .before .before .before .before .before .before .before
           .args .n) w (n .0) e,
       omega (arith, w .next, n .1, e .next),
     )

@@ -28,12 +28,12 @@ same-length c = search needs
 
 returns : tie.Need-returns
 returns c =
-    let a = c .before .before .before .before .before .before .before .before .before .before .before .before .before .before .before
-    .before .before .before .before .args in
-    let v = c .before .before .before .before .before .before .before .before .before .before .before .before .before .before .before
+    let q = c .before .before .before .before .before .before in
+    let a = q .before .before .before .before .before .before .before .before .before .before .before .before .before .args in
+    let v = q .before .before .before .before .before .before .before .before .before
     .put-word .ensures in
-    let n = c .before .before .before .before .before .before .before .before .before .before .before .put-count .ensures in
-    let w = c .before .before .before .before .before .before .put-word2 .ensures in
+    let n = q .before .before .before .before .before .put-count .ensures in
+    let w = q .put-word2 .ensures in
     let x = c .before .before .put-fixed .ensures in
     (ring-stored (a .version) (a .agreement) v (n .0) w (x .0), omega (arith, v .next, n .1, w .next, x .1))
 

@@ -16,9 +16,10 @@ same-length c = search needs
 
 returns : tie.Need-returns
 returns c =
-    let r = c .before .before .before .before .before .before .put-ring .ensures in
+    let q = c .before .before .before .before .before .before in
+    let r = q .put-ring .ensures in
     let p = c .before .before .put-pose .ensures in (
-      tag-stored (c .before .before .before .before .before .before .before .before .before .before .args .t) (r .0) (p .0),
+      tag-stored (q .before .before .before .before .args .t) (r .0) (p .0),
       omega (
         arith,
         r .1,

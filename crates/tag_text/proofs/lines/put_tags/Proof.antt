@@ -19,9 +19,10 @@ same-length c = search needs
 
 returns : tie.Need-returns
 returns c =
-    let n = c .before .before .before .before .before .before .at-most-four in
+    let q = c .before .before .before .before .before .before in
+    let n = q .at-most-four in
     let w = c .before .before .put-word .ensures in (
-      none-stored (c .before .before .before .before .before .before .before .before .args .t) (n .result) (n .ensures) (c .before .before
+      none-stored (q .before .before .args .t) (n .result) (n .ensures) (c .before .before
           .before .before .before .if1 .taken) w,
       omega (arith, w .next),
     )
@@ -34,9 +35,10 @@ same-length-2 c = search needs
 
 returns-2 : tie.Need-returns-2
 returns-2 c =
-    let n = c .before .before .before .before .before .before .at-most-four in
+    let q = c .before .before .before .before .before .before in
+    let n = q .at-most-four in
     let l = c .before .before .put-list .ensures in (
-      some-stored (c .before .before .before .before .before .before .before .before .args .t) (n .result) (n .ensures) (c .before .before
+      some-stored (q .before .before .args .t) (n .result) (n .ensures) (c .before .before
           .before .before .before .if1 .left) (l .0),
       omega (arith, l .1, n .ensures),
     )

@@ -55,8 +55,9 @@ wide-requires-8 c κs = search needs
 
 returns : tie.Need-returns
 returns c =
-    cons-cong (c .before .before .before .before .before .before .before .wide .ensures)
-    (cons-cong (c .before .before .before .before .before .before .wide2 .ensures)
+    let q = c .before .before .before .before .before .before in
+    cons-cong (q .before .wide .ensures)
+    (cons-cong (q .wide2 .ensures)
     (cons-cong (c .before .before .before .before .before .wide3 .ensures)
     (cons-cong (c .before .before .before .before .wide4 .ensures)
     (cons-cong (c .before .before .before .wide5 .ensures)

@@ -24,8 +24,9 @@ returns-2 c =
 
 returns-3 : tie.Need-returns-3
 returns-3 c =
-    let most = c .before .before .before .before .before .before .args .most in
-    let h = c .before .before .before .before .before .before .args .h in
+    let q = c .before .before .before .before .before .before in
+    let most = q .args .most in
+    let h = q .args .h in
     let n = c .before .before .before .before .before .check-head in (
       check-pass most h (n .result) 13 (n .ensures) (c .before .before .before .before .if1 .left)
           (sides-high most (h .width) (h .height) (c .before .before .if2 .left) (c .if3 .taken)),
@@ -34,8 +35,9 @@ returns-3 c =
 
 returns-4 : tie.Need-returns-4
 returns-4 c =
-    let most = c .before .before .before .before .before .before .args .most in
-    let h = c .before .before .before .before .before .before .args .h in
+    let q = c .before .before .before .before .before .before in
+    let most = q .args .most in
+    let h = q .args .h in
     let n = c .before .before .before .before .before .check-head in (
       check-pass most h (n .result) 0 (n .ensures) (c .before .before .before .before .if1 .left)
           (sides-on most (h .width) (h .height) (c .before .before .if2 .left) (c .if3 .left)),

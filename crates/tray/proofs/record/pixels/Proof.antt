@@ -49,10 +49,10 @@ is-side-requires-2 c κs = search needs
 
 returns-4 : tie.Need-returns-4
 returns-4 c =
-    let s = now (c .before .before .before .before .before .before .before .before .before .before .args .head) in
+    let q = c .before .before .before .before .before .before in
+    let s = now (q .before .before .before .before .args .head) in
     let long : 10 ≤ length s = omega arith in
-    let kind : pairAt s 4 ≡ 1 = sym (c .before .before .before .before .before .before .before .pair-at .ensures .0) ∙ c .before
-    .before .before .before .before .before .if2 .left in
+    let kind : pairAt s 4 ≡ 1 = sym (q .before .pair-at .ensures .0) ∙ q .if2 .left in
     let u = c .before .before .before .is-side in
     let v = c .before .is-side2 in
     let wide = side-of (c .before .before .before .before .before .pair-at2 .ensures .0) (u .ensures) ∙ not-false (u .result) (c
@@ -95,14 +95,15 @@ add-if5 c =
 
 returns-5 : tie.Need-returns-5
 returns-5 c =
-    let s = now (c .before .before .before .before .before .before .before .before .before .before .before .before .args .head) in
+    let k = c .before .before .before .before .before .before in
+    let s = now (k .before .before .before .before .before .before .args .head) in
     let long : 10 ≤ length s = omega arith in
-    let kind : pairAt s 4 ≡ 1 = sym (c .before .before .before .before .before .before .before .before .before .pair-at .ensures .0)
-    ∙ c .before .before .before .before .before .before .before .before .if2 .left in
+    let kind : pairAt s 4 ≡ 1 = sym (k .before .before .before .pair-at .ensures .0)
+    ∙ k .before .before .if2 .left in
     let u = c .before .before .before .before .before .is-side in
     let v = c .before .before .before .is-side2 in
-    let x = c .before .before .before .before .before .before .before .pair-at2 .ensures .0 in
-    let y = c .before .before .before .before .before .before .pair-at3 .ensures .0 in
+    let x = k .before .pair-at2 .ensures .0 in
+    let y = k .pair-at3 .ensures .0 in
     let wide = side-of x (u .ensures) ∙ not-false (u .result) (c .before .before .before .before .if3 .left) in
     let high = side-of y (v .ensures) ∙ not-false (v .result) (c .before .before .if4 .left) in (
       none-long s long kind wide high
@@ -115,20 +116,20 @@ mul-result c = search needs
 
 returns-6 : tie.Need-returns-6
 returns-6 c =
-    let s = now (c .before .before .before .before .before .before .before .before .before .before .before .before .args .head) in
+    let q = c .before .before .before .before .before .before in
+    let s = now (q .before .before .before .before .before .before .args .head) in
     let long : 10 ≤ length s = omega arith in
-    let kind : pairAt s 4 ≡ 1 = sym (c .before .before .before .before .before .before .before .before .before .pair-at .ensures .0)
-    ∙ c .before .before .before .before .before .before .before .before .if2 .left in
+    let kind : pairAt s 4 ≡ 1 = sym (q .before .before .before .pair-at .ensures .0)
+    ∙ q .before .before .if2 .left in
     let u = c .before .before .before .before .before .is-side in
     let v = c .before .before .before .is-side2 in
-    let x = c .before .before .before .before .before .before .before .pair-at2 .ensures .0 in
-    let y = c .before .before .before .before .before .before .pair-at3 .ensures .0 in
+    let x = q .before .pair-at2 .ensures .0 in
+    let y = q .pair-at3 .ensures .0 in
     let wide = not-false (u .result) (c .before .before .before .before .if3 .left) in
     let high = not-false (v .result) (c .before .before .if4 .left) in
     let said = sym (c .before .four-at .ensures) ∙ c .if5 .left ∙ ap₂ (λ (m n : ℕ). 6 + m * n) x y in (
       ap₂ (λ (m n : ℕ). m * n) x y ∙ asked-all s long kind (side-of x (u .ensures) ∙ wide) (side-of y (v .ensures) ∙ high) said,
-      area-small (c .before .before .before .before .before .before .before .pair-at2 .result) (c .before .before .before .before
-          .before .before .pair-at3 .result) (u .ensures) wide (v .ensures) high,
+      area-small (q .before .pair-at2 .result) (q .pair-at3 .result) (u .ensures) wide (v .ensures) high,
     )
 
 pub pixels-spec : {M : Type 1} → statement M

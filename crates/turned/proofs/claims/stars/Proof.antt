@@ -1,4 +1,4 @@
--- The starred lines of document 01: the theorem is `stars` of `proofs/Stars.antt`. Assumes nothing.
+-- The lines of rule 49: the theorem is `stars` of `proofs/Stars.antt`. Assumes nothing.
 use Rattle.turned.proofs.Stars as table
 use Rattle.turned.proofs.claims.stars.Statement.{statement}
 use Rattle.turned.proofs.claims.stars.Tie as tie

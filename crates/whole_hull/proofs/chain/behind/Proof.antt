@@ -1,7 +1,7 @@
 -- `whole_hull::chain::behind` meets its contract. Assumes nothing.
 use native.Mathlib.Omega.{arith}
 use denote.Ref.{now}
-use Rattle.whole_hull.specs.Chain.{at}
+use Rattle.laws.specs.Plane.{valueAt}
 use Rattle.whole_hull.proofs.Turns.{behind-sums}
 use borrow.Author.Needs.{needs}
 use Rattle.whole_hull.proofs.chain.behind.Statement.{statement}
@@ -60,7 +60,7 @@ returns c =
     let l = c .before .before .product in
     let r = c .before .product2 in
     let e = behind-sums (s .u) (s .c) (s .w) (yu .result) (yc .result) (yw .result) (l .result) (r .result) (t .pre .1 .1 .1 .1 .0) (t .pre .1 .1 .1 .1 .1)
-    (yu .ensures .1) (l .ensures .0) (r .ensures .0) (at (now (s .a))) (yu .ensures .0) (yc .ensures .0) (yw .ensures .0) in
+    (yu .ensures .1) (l .ensures .0) (r .ensures .0) (valueAt (now (s .a))) (yu .ensures .0) (yc .ensures .0) (yw .ensures .0) in
     let k = c .if1 .taken in
     ((λ z. absurd (mathlib.Core.Bool.false≢true z)), λ z. omega (arith, e, k))
 
@@ -75,7 +75,7 @@ returns-2 c =
     let l = c .before .before .product in
     let r = c .before .product2 in
     let e = behind-sums (s .u) (s .c) (s .w) (yu .result) (yc .result) (yw .result) (l .result) (r .result) (t .pre .1 .1 .1 .1 .0) (t .pre .1 .1 .1 .1 .1)
-    (yu .ensures .1) (l .ensures .0) (r .ensures .0) (at (now (s .a))) (yu .ensures .0) (yc .ensures .0) (yw .ensures .0) in
+    (yu .ensures .1) (l .ensures .0) (r .ensures .0) (valueAt (now (s .a))) (yu .ensures .0) (yc .ensures .0) (yw .ensures .0) in
     let k = c .if1 .left in
     ((λ z. omega (arith, e, k)), λ z. absurd (mathlib.Core.Bool.true≢false z))
 

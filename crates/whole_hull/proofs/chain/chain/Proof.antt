@@ -6,13 +6,14 @@ use native.Mathlib.Omega.{arith}
 use lib.ListN.{length}
 use denote.Ref.{now}
 use borrow.Author.Needs.{needs}
-use Rattle.whole_hull.specs.Chain.{at, Chain, stackOf}
+use Rattle.laws.specs.Plane.{valueAt}
+use Rattle.whole_hull.specs.Inner.{Chain, stackOf}
 use Rattle.whole_hull.proofs.Chains.{chain-begin, chain-end}
 use Rattle.whole_hull.proofs.chain.chain.Statement.{statement}
 use Rattle.whole_hull.proofs.chain.chain.Tie as tie
 
 abbrev Inv-loop : tie.InvT-loop
-Inv-loop a s₀ left right n₀ e₀ s n e = (n ≤ e) × (e ≤ right + 1) × (length s ≡ 8193) × Chain (at a) e (stackOf s n)
+Inv-loop a s₀ left right n₀ e₀ s n e = (n ≤ e) × (e ≤ right + 1) × (length s ≡ 8193) × Chain (valueAt a) e (stackOf s n)
 
 abbrev μ-loop : tie.MeasureT-loop
 μ-loop a s₀ left right n₀ e₀ s n e = right + 1 - e
@@ -22,7 +23,7 @@ unfolding stackOf
 loop-holds c =
     let s = c .before .before in
     let i = s .pre .1 .1 in
-    (omega arith, omega (arith, i .order), s .pre .1 .0, chain-begin (at (now (s .args .a))) (s .args .left) (s .args .right) i)
+    (omega arith, omega (arith, i .order), s .pre .1 .0, chain-begin (valueAt (now (s .args .a))) (s .args .left) (s .args .right) i)
 
 add-loop : tie.Need-add-loop Inv-loop μ-loop
 add-loop c = search needs
@@ -56,7 +57,7 @@ returns c =
     let w = i .wide in
     let l = q .inv .1 in
     let n = q .inv .0 in (
-      chain-end (at (now (s .args .a))) (s .args .left) (s .args .right) i (q .e) (stackOf (q .s) (q .n)) (omega arith) (omega arith)
+      chain-end (valueAt (now (s .args .a))) (s .args .left) (s .args .right) i (q .e) (stackOf (q .s) (q .n)) (omega arith) (omega arith)
           (q .inv .3),
       omega arith,
     )

@@ -5,13 +5,14 @@ use native.Mathlib.Omega.{arith}
 use lib.ListN.{length}
 use borrow.Author.Needs.{needs, fits-under}
 use denote.Ref.{now}
-use Rattle.whole_hull.specs.Chain.{at, Ready, stackOf}
+use Rattle.laws.specs.Plane.{valueAt}
+use Rattle.whole_hull.specs.Inner.{ChainReady, stackOf}
 use Rattle.whole_hull.proofs.Stores.{kept-full, kept-pop, kept-stop, kept-few}
 use Rattle.whole_hull.proofs.chain.kept.Statement.{statement}
 use Rattle.whole_hull.proofs.chain.kept.Tie as tie
 
 abbrev Inv-loop : tie.InvT-loop
-Inv-loop a s n e m₀ m = (m ≤ n) × (n ≤ length s) × Ready (at a) e (stackOf s m)
+Inv-loop a s n e m₀ m = (m ≤ n) × (n ≤ length s) × ChainReady (valueAt a) e (stackOf s m)
 
 abbrev μ-loop : tie.MeasureT-loop
 μ-loop a s n e m₀ m = m
@@ -35,7 +36,7 @@ cast-behind c =
     let s = c .before .before .before .before .before in
     let g = s .args in
     let q = c .before .before .loop in
-    let f = kept-full (at (now (g .a))) (g .e) (s .pre .1 .1 .0) (now (g .s)) (q .m) (c .before .loop-test .taken) (q .inv .2) in
+    let f = kept-full (valueAt (now (g .a))) (g .e) (s .pre .1 .1 .0) (now (g .s)) (q .m) (c .before .loop-test .taken) (q .inv .2) in
     fits-under _ _ 8193 (f .0 .0) tt
 
 sub-behind-2 : tie.Need-sub-behind-2 Inv-loop μ-loop
@@ -52,7 +53,7 @@ cast-behind-2 c =
     let s = c .before .before .before .before .before .before in
     let g = s .args in
     let q = c .before .before .before .loop in
-    let f = kept-full (at (now (g .a))) (g .e) (s .pre .1 .1 .0) (now (g .s)) (q .m) (c .before .before .loop-test .taken) (q .inv .2) in
+    let f = kept-full (valueAt (now (g .a))) (g .e) (s .pre .1 .1 .0) (now (g .s)) (q .m) (c .before .before .loop-test .taken) (q .inv .2) in
     fits-under _ _ 8193 (f .1 .0) tt
 
 behind-requires : tie.Need-behind-requires Inv-loop μ-loop
@@ -60,7 +61,7 @@ behind-requires c κs =
     let s = c .before .before .before .before .before .before in
     let g = s .args in
     let q = c .before .before .before .loop in
-    let f = kept-full (at (now (g .a))) (g .e) (s .pre .1 .1 .0) (now (g .s)) (q .m) (c .before .before .loop-test .taken) (q .inv .2) in
+    let f = kept-full (valueAt (now (g .a))) (g .e) (s .pre .1 .1 .0) (now (g .s)) (q .m) (c .before .before .loop-test .taken) (q .inv .2) in
     (s .pre .0, (f .0, (f .1, (s .pre .1 .1 .0, (f .2, f .3)))))
 
 sub-m : tie.Need-sub-m Inv-loop μ-loop
@@ -77,7 +78,7 @@ loop-again c =
     let q = m .before .loop in (
       omega arith,
       q .inv .1,
-      kept-pop (at (now (g .a))) (g .e) (s .pre .1 .1 .0) (now (g .s)) (q .m) (m .loop-test .taken) (q .inv .2)
+      kept-pop (valueAt (now (g .a))) (g .e) (s .pre .1 .1 .0) (now (g .s)) (q .m) (m .loop-test .taken) (q .inv .2)
           (c .before .behind .ensures .0 (c .if1 .taken)),
     )
 
@@ -89,7 +90,7 @@ returns c =
     let q = m .before .loop in (
       q .inv .0,
       q .inv .2,
-      kept-stop (at (now (g .a))) (g .e) (s .pre .1 .1 .0) (now (g .s)) (q .m) (m .loop-test .taken)
+      kept-stop (valueAt (now (g .a))) (g .e) (s .pre .1 .1 .0) (now (g .s)) (q .m) (m .loop-test .taken)
           (c .before .behind .ensures .1 (c .if1 .left)),
     )
 
@@ -97,7 +98,7 @@ returns-2 : tie.Need-returns-2 Inv-loop μ-loop
 returns-2 c =
     let s = c .before .before .before .before in
     let q = c .before .loop in
-    (q .inv .0, q .inv .2, kept-few (at (now (s .args .a))) (s .args .e) (now (s .args .s)) (q .m) (c .loop-test .left))
+    (q .inv .0, q .inv .2, kept-few (valueAt (now (s .args .a))) (s .args .e) (now (s .args .s)) (q .m) (c .loop-test .left))
 
 pub kept-spec : {M : Type 1} → statement M
 kept-spec =

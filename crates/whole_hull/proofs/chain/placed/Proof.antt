@@ -2,7 +2,8 @@
 use native.Mathlib.Omega.{arith}
 use denote.Ref.{now}
 use borrow.Author.Needs.{needs}
-use Rattle.whole_hull.specs.Chain.{Full, at, stackOf}
+use Rattle.laws.specs.Plane.{valueAt}
+use Rattle.whole_hull.specs.Inner.{Full, stackOf}
 use Rattle.whole_hull.proofs.Stores.{placed-skip, placed-push}
 use Rattle.whole_hull.proofs.Chains.{ready-begin}
 use Rattle.whole_hull.proofs.chain.placed.Statement.{statement}
@@ -17,14 +18,14 @@ shared-slice-read-if1 c = search needs
 returns : tie.Need-returns
 returns c =
     let s = c .before .before .before .before in
-    (placed-skip (at (now (s .args .a))) (s .args .e) (stackOf (now (s .args .s)) (s .args .n)) (c .if1 .taken) (s .pre .1 .1), omega arith)
+    (placed-skip (valueAt (now (s .args .a))) (s .args .e) (stackOf (now (s .args .s)) (s .args .n)) (c .if1 .taken) (s .pre .1 .1), omega arith)
 
 kept-requires : tie.Need-kept-requires
 kept-requires c κs =
     let s = c .before .before .before .before .before in
-    let full : Full (at (now (s .args .a))) (s .args .e) = (s .pre .1 .0 .2, c .before .if1 .left) in (
+    let full : Full (valueAt (now (s .args .a))) (s .args .e) = (s .pre .1 .0 .2, c .before .if1 .left) in (
       s .pre .0,
-      (omega arith, (full, ready-begin (at (now (s .args .a))) (s .args .e) full (stackOf (now (s .args .s)) (s .args .n)) (s .pre .1 .1))),
+      (omega arith, (full, ready-begin (valueAt (now (s .args .a))) (s .args .e) full (stackOf (now (s .args .s)) (s .args .n)) (s .pre .1 .1))),
     )
 
 cast-s : tie.Need-cast-s
@@ -47,7 +48,7 @@ returns-2 c =
     let s = c .before .before .before .before .before .before in
     let g = s .args in
     let k = c .kept in (
-      placed-push (at (now (g .a))) (g .e) (now (g .s)) (k .result) (s .pre .1 .0 .2, c .before .before .if1 .left) (omega arith)
+      placed-push (valueAt (now (g .a))) (g .e) (now (g .s)) (k .result) (s .pre .1 .0 .2, c .before .before .if1 .left) (omega arith)
           (k .ensures .1) (k .ensures .2),
       omega arith,
     )

@@ -7,7 +7,7 @@ use mathlib.Core.Bool.{true}
 use denote.Ref.{now}
 use borrow.Author.Needs.{needs}
 use Rattle.laws.proofs.Stores.{stored-length}
-use Rattle.whole_hull.specs.Chain.{halfOf}
+use Rattle.whole_hull.specs.Inner.{halfRound}
 use Rattle.whole_hull.proofs.Halves.{first-room, second-room, one-room, lay-two, lay-one}
 use Rattle.whole_hull.proofs.laying.lay.Statement.{statement}
 use Rattle.whole_hull.proofs.laying.lay.Tie as tie
@@ -50,7 +50,7 @@ put-half-requires-2 c κs =
     let s = m .before .before .before .before .before .before .before .before .before in
     let g = s .args in (
       s .pre .1 .0,
-      subst (λ (n : ℕ). r .result + 2 * length (halfOf true (now (g .b)) (now (g .t)) (g .j) (u .result)) ≤ n)
+      subst (λ (n : ℕ). r .result + 2 * length (halfRound true (now (g .b)) (now (g .t)) (g .j) (u .result)) ≤ n)
           (sym (stored-length (r .ensures)))
           (second-room (now (g .a)) (now (g .s)) (g .k) (now (g .b)) (now (g .t)) (g .j) (d .result) (u .result) (d .ensures) (u .ensures)
           (length (now (g .out))) (r .result) (s .pre .1 .1) (r .ensures)),

@@ -5,7 +5,7 @@ use lib.ListN.{length}
 use denote.Ref.{now}
 use borrow.Author.Needs.{needs}
 use Rattle.laws.proofs.Stores.{stored-length}
-use Rattle.whole_hull.specs.Chain.{vertex}
+use Rattle.whole_hull.specs.Inner.{vertex}
 use Rattle.whole_hull.proofs.Halves.{half-run, half-corner, half-is, run-place}
 use Rattle.whole_hull.proofs.laying.put_half.Statement.{statement}
 use Rattle.whole_hull.proofs.laying.put_half.Tie as tie

@@ -9,14 +9,14 @@ use borrow.Author.Needs.{needs}
 use Rattle.laws.proofs.Stores.{stored-length}
 use Rattle.laws.specs.Lent.{Stored}
 use Rattle.hull.specs.Points.{numbersOf}
-use Rattle.whole_hull.specs.Chain.{vertex, upTo}
+use Rattle.whole_hull.specs.Inner.{vertex, listUpTo}
 use Rattle.whole_hull.proofs.Halves.{run-begin, run-step, run-place}
 use Rattle.whole_hull.proofs.laying.put_run.Statement.{statement}
 use Rattle.whole_hull.proofs.laying.put_run.Tie as tie
 
 abbrev Inv-loop : tie.InvT-loop
 Inv-loop a s k back out₀ at i₀ m₀ out i m =
-    (i ≤ k) × (length out ≡ length out₀) × Stored at (numbersOf (upTo (vertex back a s) i)) out₀ out m
+    (i ≤ k) × (length out ≡ length out₀) × Stored at (numbersOf (listUpTo (vertex back a s) i)) out₀ out m
 
 abbrev μ-loop : tie.MeasureT-loop
 μ-loop a s k back out₀ at i₀ m₀ out i m = k - i
@@ -61,7 +61,7 @@ returns c =
     let g = c .before .before .before .before .before .args in
     let q = c .before .loop in
     let z : q .i ≡ g .k = omega (arith, q .inv .0) in
-    subst (λ (n : ℕ). Stored (g .at) (numbersOf (upTo (vertex (g .back) (now (g .a)) (now (g .s))) n)) (now (g .out)) (q .out) (q .m)) z
+    subst (λ (n : ℕ). Stored (g .at) (numbersOf (listUpTo (vertex (g .back) (now (g .a)) (now (g .s))) n)) (now (g .out)) (q .out) (q .m)) z
     (q .inv .2)
 
 pub put-run-spec : {M : Type 1} → statement M

@@ -2,7 +2,7 @@
 use mathlib.Core.Path.{ap₂, _∙_}
 use Prim.Native.Nat.{ℕ}
 use denote.Ref.{now}
-use Rattle.whole_hull.specs.Steps.{lowered}
+use Rattle.whole_hull.specs.Inner.{lowered}
 use borrow.Author.Needs.{needs}
 use Rattle.whole_hull.proofs.tops.lower_both.Statement.{statement}
 use Rattle.whole_hull.proofs.tops.lower_both.Tie as tie

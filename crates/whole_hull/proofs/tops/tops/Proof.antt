@@ -1,6 +1,6 @@
 -- `whole_hull::tops::tops` meets its contract. The loop's invariant: both lists have the least y of the first i points, seen from either end, and
 -- their x are in the span. The measure is how many are left. Assumes nothing.
-use mathlib.Core.Path.{_≡_, refl, sym, ap, _∙_, subst}
+use mathlib.Core.Path.{_≡_, sym, ap, _∙_, subst}
 use mathlib.Core.Bool.{true, false}
 use Prim.Native.Nat.{ℕ, _+_, _-_, _≤_}
 use native.Mathlib.Omega.{arith}
@@ -8,7 +8,7 @@ use lib.ListN.{length}
 use denote.Ref.{now}
 use borrow.Author.Needs.{needs}
 use Rattle.hull.specs.Points.{many}
-use Rattle.whole_hull.specs.Chain.{Tops, Spans, seen}
+use Rattle.whole_hull.specs.Inner.{Tops, Spans, seen}
 use Rattle.whole_hull.proofs.Stores.{tops-step, lowered-length}
 use Rattle.whole_hull.proofs.Spans.{spans-step}
 use Rattle.whole_hull.proofs.tops.tops.Statement.{statement}
@@ -49,13 +49,14 @@ loop-less c = search needs
 
 loop-again : tie.Need-loop-again Inv-loop μ-loop
 loop-again c =
+    let u = c .before .before .before .before .before .before in
     let low = c .before .before .before .before .before .lower-both in
-    let y = c .before .before .before .before .before .before .y-at in
-    let x = c .before .before .before .before .before .before .before .before .before .x-at2 in
-    let q = c .before .before .before .before .before .before .before .before .before .before .before .loop in
-    let p = now (c .before .before .before .before .before .before .before .before .before .before .before .before .before .before .before .before .args .p) in
+    let y = u .y-at in
+    let x = u .before .before .before .x-at2 in
+    let q = u .before .before .before .before .before .loop in
+    let p = now (u .before .before .before .before .before .before .before .before .before .before .args .p) in
     let w = c .widened in (
-      (let more = c .before .before .before .before .before .before .before .before .before .before .loop-test .taken in omega arith),
+      (let more = u .before .before .before .before .loop-test .taken in omega arith),
       ap length (low .ensures .0) ∙ lowered-length _ _ _ ∙ q .inv .1,
       ap length (low .ensures .1) ∙ lowered-length _ _ _ ∙ q .inv .2,
       subst (Tops false p (q .i + 1)) (sym (low .ensures .0))

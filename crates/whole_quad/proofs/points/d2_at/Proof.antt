@@ -1,6 +1,6 @@
 -- `whole_quad::points::d2_at` meets its contract. Assumes nothing.
 use native.Mathlib.Omega.{arith}
-use Rattle.whole_quad.specs.Steps.{d2At}
+use Rattle.whole_quad.specs.Inner.{d2At}
 use borrow.Author.Needs.{needs}
 use Rattle.whole_quad.proofs.points.d2_at.Statement.{statement}
 use Rattle.whole_quad.proofs.points.d2_at.Tie as tie

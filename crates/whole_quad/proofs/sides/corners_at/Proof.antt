@@ -1,5 +1,5 @@
 -- `whole_quad::sides::corners_at` meets its contract. Assumes nothing.
-use Rattle.whole_quad.specs.Door.{cornersOf}
+use Rattle.whole_quad.specs.Door.{quadOfPairs}
 use borrow.Author.Needs.{needs}
 use Rattle.whole_quad.proofs.sides.corners_at.Statement.{statement}
 use Rattle.whole_quad.proofs.sides.corners_at.Tie as tie
@@ -17,7 +17,7 @@ point-at-requires-4 : tie.Need-point-at-requires-4
 point-at-requires-4 c κs = search needs
 
 returns : tie.Need-returns
-unfolding cornersOf
+unfolding quadOfPairs
 returns c = cc
 
 pub corners-at-spec : {M : Type 1} → statement M

@@ -4,7 +4,7 @@ use native.Mathlib.Omega.{arith}
 use denote.Ref.{now}
 use borrow.Author.Needs.{needs}
 use Rattle.hull.specs.Points.{many}
-use Rattle.whole_quad.specs.Steps.{apart, farFrom, reachOf}
+use Rattle.whole_quad.specs.Inner.{apart, farFrom, reachOf}
 use Rattle.whole_quad.proofs.Pairs.{rows-are}
 use Rattle.whole_quad.proofs.Turns.{apart-some}
 use Rattle.whole_quad.proofs.sides.farthest.Statement.{statement}

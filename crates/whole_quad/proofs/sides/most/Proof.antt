@@ -1,15 +1,15 @@
 -- `whole_quad::sides::most` meets its contract. The loop's invariant: what is kept are points, and the folds over the points from i on give
 -- the farthest of either side. The measure is the number of points left. Assumes nothing.
-use mathlib.Core.Path.{_≡_, ap, sym, _∙_}
+use mathlib.Core.Path.{_≡_, ap, _∙_}
 use Prim.Native.Nat.{ℕ, _-_, _≤_, _<_}
 use native.Mathlib.Omega.{arith}
 use lib.Dec.{ltb}
 use denote.Ref.{now}
 use borrow.Author.Needs.{needs}
 use Rattle.whole.specs.Hull.{range}
-use Rattle.whole.specs.Wrap.{keep}
+use Rattle.whole.specs.Walk.{keep}
 use Rattle.hull.specs.Points.{many}
-use Rattle.whole_quad.specs.Steps.{sideAt, mostOf}
+use Rattle.whole_quad.specs.Inner.{sideAt, mostOf}
 use Rattle.whole_quad.proofs.Pairs.{keep-begin, keep-turn, keep-end, kept-at, kept-in}
 use Rattle.whole_quad.proofs.Turns.{side-back}
 use Rattle.whole_quad.proofs.sides.most.Statement.{statement}

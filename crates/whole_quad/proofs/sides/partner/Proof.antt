@@ -2,15 +2,15 @@
 -- later points finds what the fold over all later ones finds. The measure is the number of points left. Assumes nothing.
 use mathlib.Core.List.{map}
 use mathlib.Core.Path.{_≡_, refl, sym, ap, _∙_}
-use Prim.Native.Nat.{ℕ, _+_, _-_, _≤_, _<_}
+use Prim.Native.Nat.{ℕ, _-_, _<_}
 use native.Mathlib.Omega.{arith}
 use lib.Dec.{ltb}
 use denote.Ref.{now}
 use borrow.Author.Needs.{needs}
 use Rattle.whole.specs.Hull.{range}
-use Rattle.whole.specs.Wrap.{keep, with-i}
+use Rattle.whole.specs.Walk.{keep, with-i}
 use Rattle.hull.specs.Points.{many}
-use Rattle.whole_quad.specs.Steps.{apart, farFrom, reachOf}
+use Rattle.whole_quad.specs.Inner.{apart, farFrom, reachOf}
 use Rattle.whole_quad.proofs.Pairs.{partner-turn, partner-end}
 use Rattle.whole_quad.proofs.Turns.{apart-some}
 use Rattle.whole_quad.proofs.sides.partner.Statement.{statement}

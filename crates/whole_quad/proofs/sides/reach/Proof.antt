@@ -8,9 +8,9 @@ use lib.Dec.{ltb}
 use denote.Ref.{now}
 use borrow.Author.Needs.{needs}
 use Rattle.whole.specs.Hull.{range}
-use Rattle.whole.specs.Wrap.{keep, with-i}
+use Rattle.whole.specs.Walk.{keep, with-i}
 use Rattle.hull.specs.Points.{many}
-use Rattle.whole_quad.specs.Steps.{apart, farFrom, reachOf}
+use Rattle.whole_quad.specs.Inner.{apart, farFrom, reachOf}
 use Rattle.whole_quad.proofs.Pairs.{larger-in, reach-begin, reach-turn, reach-end}
 use Rattle.whole_quad.proofs.Turns.{apart-some}
 use Rattle.whole_quad.proofs.sides.reach.Statement.{statement}

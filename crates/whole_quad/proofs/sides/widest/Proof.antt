@@ -7,9 +7,9 @@ use lib.Dec.{ltb}
 use denote.Ref.{now}
 use borrow.Author.Needs.{needs}
 use Rattle.whole.specs.Hull.{range}
-use Rattle.whole.specs.Wrap.{keep}
+use Rattle.whole.specs.Walk.{keep}
 use Rattle.hull.specs.Points.{many}
-use Rattle.whole_quad.specs.Steps.{reachOf}
+use Rattle.whole_quad.specs.Inner.{reachOf}
 use Rattle.whole_quad.proofs.Pairs.{keep-begin, keep-turn, keep-end, kept-at, kept-in}
 use Rattle.whole_quad.proofs.sides.widest.Statement.{statement}
 use Rattle.whole_quad.proofs.sides.widest.Tie as tie

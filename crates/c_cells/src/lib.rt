@@ -1,0 +1,7 @@
+// Answers about versions, border cells, ring marks and proof rings put into the out-parameters of C
+// functions.
+//
+// A result is 0 where there is an answer, 255 where there is none, else the number of the refusal. On 0 every out-parameter is written, else none is.
+pub mod cells;
+pub mod plates;
+pub mod poses;

@@ -1,8 +1,0 @@
-// Theorems on labels, each a function with an empty body, so that the gate counts it.
-ghost use Rattle.regions.specs.Claims.{LabelsCount};
-
-// Two ink cells share a label where they are linked, and only there; labels count from 1 by first
-// cell in row order; 0 is no ink. Of every picture.
-pub fn labels_count()
-    ensures { λ _. ⌜ LabelsCount ⌝ }
-{}
