@@ -9,7 +9,8 @@
  * RESULTS. Every function answers one of these:
  *   LCR_OK (0)      the call is accepted; every out-parameter is written;
  *   1 to 22         the call is refused: the number of the first check that fails, in the order given with each
- *                   function; those in use are listed below. Out-parameters and lent lists are as before, but for refusal 4;
+ *                   function; those in use are listed below, and 4 is not answered. Every refusal of every function
+ *                   leaves out-parameters and lent lists as they were;
  *   LCR_NONE (255)  the call is accepted and there is nothing to answer; out-parameters are as before.
  *
  * LISTS. A list is a pointer to its first element and a length in elements, not bytes. An array with its
@@ -50,8 +51,6 @@ enum {
     LCR_SIDE = 1,        /* a side of the picture outside 1..4,096 */
     LCR_BYTES = 2,       /* bytes not width x height; behind a PGM header, fewer */
     LCR_LENT = 3,        /* a lent list or an out list is too short */
-    LCR_STACK = 4,       /* a push finds the stack full; does not happen where LCR_LENT is passed. Labels and stack
-                            are all zero then, and the level grid is finished */
     LCR_BOX = 5,         /* box not 0 <= x0 < x1 <= width, or the same of y and height */
     LCR_POINTS = 6,      /* an odd list of points, or more than 16,384 points */
     LCR_COORDINATE = 7,  /* a coordinate not finite, or beyond -32,768 .. 32,768 */
@@ -100,7 +99,7 @@ enum {
  *              four places, 0 past those kept: label, cells, and the box in pixels, left, top, right, bottom, right and
  *              bottom exclusive, cut at the picture's edges
  *
- * Refusals in order: LCR_SIDE, LCR_BYTES, LCR_LENT, LCR_STACK. */
+ * Refusals in order: LCR_SIDE, LCR_BYTES, LCR_LENT. */
 uint32_t lcr_picture(const uint8_t *gray, size_t gray_len, size_t width, size_t height,
                      uint8_t *levels, size_t levels_len, uint32_t *labels, size_t labels_len,
                      uint32_t *stack, size_t stack_len, uint32_t regions[LCR_REGIONS]);

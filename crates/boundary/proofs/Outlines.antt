@@ -3,25 +3,16 @@ use mathlib.Core.Path.{_≡_, refl, ap}
 use mathlib.Core.Logic.{_⊎_, inl, inr}
 use mathlib.Core.Bool.{Bool, true, false, cond}
 use mathlib.Core.List.{List, [], _∷_, map, List·Memᴰ, List·Memᴰ·head, List·Memᴰ·tail, List·Memᴰ·append-cases}
-use Prim.Native.Nat.{ℕ, zero, suc, _+_, _-_, _*_, _≤_, _<_}
+use Prim.Native.Nat.{ℕ, _+_, _-_, _*_, _≤_, _<_}
 use native.Mathlib.Omega.{arith}
 use lib.Dec.{ltb}
 use Rattle.laws.specs.Move.{Box}
 use Rattle.boundary.specs.Runs.{runStart, runEnd, edges}
 use Rattle.boundary.specs.Boundary.{onRow, onColumn, rowPoints, columnPoints, rowsFrom, columnsFrom, boundary}
 use Rattle.laws.specs.Fold.{joined}
+use Rattle.laws.proofs.Joined.{joined-mem}
 use Rattle.boundary.proofs.Runs.{start-le, run-end-le}
 use Rattle.boundary.proofs.Boundary.{Within}
-
-joined-mem : {A : Type 0} (n : ℕ) (f : ℕ → List A) (q : A) → List·Memᴰ q (joined n f) → (i : ℕ) × (i < n) × List·Memᴰ q (f i)
-unfolding joined
-joined-mem zero f q t = elim t [ ]
-joined-mem (suc n) f q t = go (List·Memᴰ·append-cases (joined n f) t) (joined-mem n f q)
-  where
-    go : List·Memᴰ q (joined n f) ⊎ List·Memᴰ q (f n) → (List·Memᴰ q (joined n f) → (i : ℕ) × (i < n) × List·Memᴰ q (f i))
-        → (i : ℕ) × (i < suc n) × List·Memᴰ q (f i)
-    go (inl s) ih = let r = ih s in (r .0, omega (arith, r .1), r .2)
-    go (inr s) ih = (n, omega arith, s)
 
 mapped : {A B : Type 0} (f : A → B) (l : List A) (q : B) → List·Memᴰ q (map f l) → (a : A) × List·Memᴰ a l × (q ≡ f a)
 mapped f [] q t = elim t [ ]

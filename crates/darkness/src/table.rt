@@ -10,8 +10,8 @@ ghost use Rattle.laws.specs.Plane.{plane, drawn};
 ghost use Rattle.levels.specs.Level.{cells, span};
 ghost use Rattle.darkness.specs.Darkness.{inkBit, inkBefore};
 ghost use Rattle.darkness.specs.Inner.{Sized, CountSpot, TableHeld, CountedTo, cellEnd, RowTo};
-use labels::clearing::clear;
 use levels::cells::cells_of;
+use regions::clearing::clear;
 
 // 1 for a byte below the threshold.
 fn one_below(v: u8, t: u8) -> u32

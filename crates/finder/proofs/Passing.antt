@@ -3,7 +3,7 @@
 --     a check that follows others: then-first, then-next, refuse-not, refuse-on, find-grids, find-short, find-version, find-none
 --     what an accepted call knows: Passed, passed, picture-taken
 --     the answer: given-is, refused-is
---     the lent lists: not-four, number-is, number-given, refused-levels, refused-labels, refused-stack, given-past
+--     the lent lists: number-is, number-given, refused-levels, refused-labels, refused-stack, given-past
 -- Assumes nothing.
 use mathlib.Core.Path.{_≡_, refl, sym, ap, _∙_}
 use mathlib.Core.Bool.{Bool, true, false, not}
@@ -28,7 +28,6 @@ use Rattle.regions.specs.Regions.{keptRegions}
 use Rattle.picture.specs.Door as door
 use Rattle.regions.specs.declared.answer.Kept.{Kept}
 use Rattle.picture.specs.declared.answer.PictureAnswer.{PictureAnswer}
-use Rattle.picture.proofs.Outcomes.{check-few}
 use Rattle.ring.specs.Checks.{hasRoom}
 use Rattle.ring.proofs.Passing.{room-in, version-in}
 use Rattle.ring.specs.declared.quads.Trace.{Trace}
@@ -141,21 +140,6 @@ module _ (gray : List ℕ) (w h most : ℕ) where
   refused-is n m r er en some = er ∙ refused-by n some ∙ ap (λ (n : ℕ). answerBy n gray w h most) en
 
 -- ---- the lent lists
-rest-not-four : (a b : Bool) → _≡_ {A = ℕ} (orRefuse a 3 (orRefuse b 8 0)) 4 → ⊥
-rest-not-four false b e = omega arith
-rest-not-four true false e = omega arith
-rest-not-four true true e = omega arith
-
-then-not-four : (m rest : ℕ) → m ≤ 3 → (rest ≡ 4 → ⊥) → thenCheck m rest ≡ 4 → ⊥
-then-not-four zero rest few z e = z e
-then-not-four (suc m) rest few z e = omega arith
-
--- no refusal of the finder is that of a full stack
-pub not-four : (w h bytes levels labels stack a b c d most : ℕ) → checkFind w h bytes levels labels stack a b c d most ≡ 4 → ⊥
-not-four w h bytes levels labels stack a b c d most =
-    then-not-four (checkGrids w h bytes levels labels stack) _ (check-few w h bytes levels labels stack)
-    (rest-not-four (hasRooms (needOf w h) a b c d) (isVersion most))
-
 pub number-is : (n : ℕ) (r : Answer) → r ≡ refusedBy n → numberOf (r .outcome) ≡ n
 unfolding refusedBy numberOf
 number-is n r e = ap (λ (r : Answer). numberOf (r .outcome)) e
@@ -164,15 +148,15 @@ pub number-given : numberOf Given ≡ 0
 unfolding numberOf
 number-given = refl
 
-module _ (s old : List ℕ) (w h n : ℕ) (some : n ≡ 0 → ⊥) (four : n ≡ 4 → ⊥) where
+module _ (s old : List ℕ) (w h n : ℕ) (some : n ≡ 0 → ⊥) where
   pub refused-levels : (m : ℕ) → m ≡ n → old ≡ levelsAfter m s w h old
-  refused-levels m e = rw (e, ne-eqb n 0 some, ne-eqb n 4 four)
+  refused-levels m e = rw (e, ne-eqb n 0 some)
 
   pub refused-labels : (m : ℕ) → m ≡ n → old ≡ labelsAfter m s w h old
-  refused-labels m e = rw (e, ne-eqb n 0 some, ne-eqb n 4 four)
+  refused-labels m e = rw (e, ne-eqb n 0 some)
 
   pub refused-stack : (m : ℕ) → m ≡ n → StackAfter m w h old old
-  refused-stack m e = rw (e, ne-eqb n 0 some, ne-eqb n 4 four)
+  refused-stack m e = rw (e, ne-eqb n 0 some)
 
 pub given-past : (n : ℕ) {old new : List Float} → UntouchedPast n old new → UntouchedPast (neededOf Given n) old new
 unfolding neededOf

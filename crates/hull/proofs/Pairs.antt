@@ -13,9 +13,9 @@ use Prim.Native.Nat.{ℕ, suc, _+_, _-_, _≤_, _<_}
 use native.Mathlib.Omega.{arith}
 use lib.Ieee.{Float, lt, le, neg, ofBits, binary32}
 use borrow.Author.Tests.{lt-ltb, le-ltb}
+use Rattle.laws.specs.Lists.{range}
 use Rattle.ieee.specs.Constants.{0f}
 use Rattle.laws.proofs.Steps.{one-less, none-left}
-use Rattle.whole.specs.Hull.{range}
 use Rattle.whole.specs.Walk.{keep, indexPairs, with-i, farthestWith, ends, quadWith}
 use Rattle.hull.specs.Points.{many}
 use Rattle.hull.specs.Hull.{crossAt, d2At}

@@ -11,10 +11,10 @@ use native.Mathlib.Omega.{arith}
 use lib.ListN.{length, set, length-append}
 use lib.Seq.{sets}
 use lib.Ieee.{Float}
+use Rattle.laws.specs.Lists.{range}
 use Rattle.laws.proofs.Steps.{one-less, none-left}
 use Rattle.laws.proofs.Stores.{sets-append, laid-is}
 use Rattle.whole.specs.Walk.{Tests, bestWith, lowestWith, nextWith, walkWith, hullWith}
-use Rattle.whole.specs.Hull.{range}
 use Rattle.laws.specs.Lent.{laid}
 use Rattle.hull.specs.Points.{xAt, yAt, many, pointsAt}
 use Rattle.hull.specs.Hull.{hullTests, hullOf}

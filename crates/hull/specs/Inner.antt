@@ -3,7 +3,7 @@ use mathlib.Core.Bool.{Bool, true, false}
 use mathlib.Core.List.{List}
 use Prim.Native.Nat.{ℕ}
 use lib.Ieee.{Float, lt}
-use Rattle.whole.specs.Hull.{range}
+use Rattle.laws.specs.Lists.{range}
 use Rattle.whole.specs.Walk.{lowestWith}
 use Rattle.hull.specs.Points.{many}
 use Rattle.hull.specs.Hull.{d2At, hullTests}

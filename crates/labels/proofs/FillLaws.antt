@@ -1,208 +1,214 @@
 -- What the fill of a group keeps (Fill) and what group after group keeps (Outer): at the end every cell has its label.
---     On, Fill, Outer, marked-ink, step-fill, run-fill, pop-fill, shut-fill, linked-done, next-fill, emptied-kept, emptied-safe,
---     emptied-fill
---     group after group: outer-begin, outer-skip, outer-mark, outer-end
+--     a group: marked-ink, visit-fill, visits-fill, pop-fill, shut-fill, linked-done, next-fill, top-fill, emptied-fill
+--     group after group: outer-begin, outer-skip, outer-mark, outer-group, outer-groups, outer-end
 -- Assumes nothing.
 use mathlib.Core.Bool.{Bool, cond, false, true}
-use mathlib.Core.List.{List}
+use mathlib.Core.List.{List, [], _∷_, List·Memᴰ, List·Memᴰ·head, List·Memᴰ·tail}
 use mathlib.Core.Logic.{_⊎_, inl, inr, ⊎-elim}
-use mathlib.Core.Path.{_∙_, _≡_, ap, refl, sym}
-use Prim.Native.Nat.{_+_, _<_, _≤_, ℕ}
+use mathlib.Core.Path.{_∙_, _≡_, ap, refl, subst, sym}
+use Prim.Native.Nat.{_+_, _<_, _≤_, suc, zero, ℕ}
 use native.Mathlib.Decide.{decLt}
-use native.Mathlib.Numerals.{add-one}
 use native.Mathlib.Omega.{arith}
 use lib.ListN.{getD, length, set}
-use lib.Seq.{getD-set-other, getD-set-same}
-use Rattle.labels.proofs.VisitLaws.{marked-in, pop-safe, run-kept, run-safe, safe-begin, step-done, step-kept, step-safe}
-use Rattle.labels.specs.Inner.{Emptied, Flooded, MARK, Run, Safe, Shut, Step, begin, on, pass, pop, push, stop}
+use Rattle.labels.proofs.States.{Kept, marks-le, marked-in, visit-by, group-by, visit-kept, visit-done, visits-kept, visits-done, looked-kept, emptied-kept, emptied-empty}
+use Rattle.labels.specs.Labelling.{MARK, State, push, afterVisit, afterVisits, popped, afterTop, emptied, next, afterGroup, afterGroups, start}
+use Rattle.labels.specs.Inner.{marks, Shut}
 use Rattle.laws.proofs.Bools.{at-or-below, clash, which}
-use Rattle.laws.proofs.Counts.{count-no, count-yes}
+use Rattle.laws.proofs.Counts.{count-most, count-no, count-yes}
 use Rattle.laws.proofs.Writes.{at-set}
 use Rattle.laws.specs.Count.{count}
 use Rattle.labels.proofs.Graph.{first-ink, first-of, label-none, label-same, labelled, leader-le, leader-linked, linked-right}
 use Rattle.labels.specs.Labels.{NearGrid, Linked, first?, here, label, leader, near, step}
 
--- The cell `c` is among the `k` that are on the stack.
-pub On : List ℕ → ℕ → ℕ → Type 0
-On st k c = (i : ℕ) × (i < k) × (getD st i 0 ≡ c)
+-- The labels given so far are right and at most the last; what is near a cell with a label has one too, unless that cell is `o` or on the
+-- stack; and the stack holds cells of the last label.
+pub record Fill (ink : ℕ → Bool) (near : ℕ → ℕ → Bool) (n o : ℕ) (σ : State) : Type 0 where
+  pub blank : (c : ℕ) → ink c ≡ false → getD (σ .held) c 0 ≡ 0
+  pub right : (c : ℕ) → ink c ≡ true → (getD (σ .held) c 0 ≡ MARK → ⊥)
+      → (getD (σ .held) c 0 ≡ label ink near n c) × (label ink near n c ≤ σ .given)
+  pub closed : (c : ℕ) → ink c ≡ true → (getD (σ .held) c 0 ≡ MARK → ⊥) → (c ≡ o) ⊎ (List·Memᴰ c (σ .stack) ⊎ Shut near (σ .held) c)
+  pub stacked : (c : ℕ) → List·Memᴰ c (σ .stack) → (ink c ≡ true) × (label ink near n c ≡ σ .given)
 
--- The labels given so far are right and at most `v`; what is near a cell with a label has one too, unless that cell is `o` or on the stack;
--- and the stack holds cells of label `v`.
-pub record Fill (ink : ℕ → Bool) (near : ℕ → ℕ → Bool) (n o v : ℕ) (l st : List ℕ) (k : ℕ) : Type 0 where
-  pub blank : (c : ℕ) → ink c ≡ false → getD l c 0 ≡ 0
-  pub right : (c : ℕ) → ink c ≡ true → (getD l c 0 ≡ MARK → ⊥) → (getD l c 0 ≡ label ink near n c) × (label ink near n c ≤ v)
-  pub closed : (c : ℕ) → ink c ≡ true → (getD l c 0 ≡ MARK → ⊥) → (c ≡ o) ⊎ (On st k c ⊎ Shut near l c)
-  pub stacked : (i : ℕ) → i < k → (ink (getD st i 0) ≡ true) × (label ink near n (getD st i 0) ≡ v)
+-- The cells before `s` are done.
+pub record Outer (ink : ℕ → Bool) (near : ℕ → ℕ → Bool) (n s : ℕ) (σ : State) : Type 0 where
+  pub fill : Fill ink near n n σ
+  pub empty : σ .stack ≡ []
+  pub size : length (σ .held) ≡ n
+  pub passed : (c : ℕ) → c < s → getD (σ .held) c 0 ≡ MARK → ⊥
+  pub counted : σ .given ≡ count (first? ink near n) s
 
--- The cells before `s` are done: `v` groups have their labels.
-pub record Outer (ink : ℕ → Bool) (near : ℕ → ℕ → Bool) (n s v : ℕ) (l st : List ℕ) : Type 0 where
-  pub fill : Fill ink near n n v l st 0
-  pub passed : (c : ℕ) → c < s → getD l c 0 ≡ MARK → ⊥
-  pub counted : v ≡ count (first? ink near n) s
+-- The cells that are visited round a cell are the near ones.
+pub record Around (near : ℕ → ℕ → Bool) (n : ℕ) (round : ℕ → List ℕ) : Type 0 where
+  pub near-by : (c j : ℕ) → List·Memᴰ j (round c) → near c j ≡ true
+  pub all : (c j : ℕ) → near c j ≡ true → j < n → List·Memᴰ j (round c)
+
+not-in : {c : ℕ} → List·Memᴰ c [] → ⊥
+not-in t = elim t [ ]
 
 module _ (ink : ℕ → Bool) (near : ℕ → ℕ → Bool) (n : ℕ) (g : NearGrid ink near n) where
-  pub marked-ink : {o v k : ℕ} {l st : List ℕ} → Fill ink near n o v l st k → (c : ℕ) → getD l c 0 ≡ MARK → ink c ≡ true
-  marked-ink {l = l} s c m = ⊎-elim (λ i. i) (λ i. absurd (let z : getD l c 0 ≡ 0 = s .blank c i in omega arith)) (which (ink c))
+  pub marked-ink : {o : ℕ} {σ : State} → Fill ink near n o σ → (c : ℕ) → getD (σ .held) c 0 ≡ MARK → ink c ≡ true
+  marked-ink {σ = σ} s c m = ⊎-elim (λ i. i) (λ i. absurd (let z : getD (σ .held) c 0 ≡ 0 = s .blank c i in omega arith)) (which (ink c))
 
-  module _ (v : ℕ) (f : v ≡ MARK → ⊥) where
-    module _ (o j k : ℕ) (l st : List ℕ) (s : Fill ink near n o v l st k) (e : getD l j 0 ≡ MARK) (h : k < length st)
-        (q : label ink near n j ≡ v) where
+  module _ (o j : ℕ) (σ : State) (f : σ .given ≡ MARK → ⊥) (s : Fill ink near n o σ) where
+    module _ (e : getD (σ .held) j 0 ≡ MARK) (q : label ink near n j ≡ σ .given) where
+      abbrev l′ : List ℕ
+      l′ = set (σ .held) j (σ .given)
+
       i-j : ink j ≡ true
       i-j = marked-ink s j e
 
-      -- a cell that is no mark afterwards is `j`, or was none before
-      was : (c : ℕ) → (getD (set l j v) c 0 ≡ MARK → ⊥)
-          → (c ≡ j) ⊎ ((c ≡ j → ⊥) × (getD l c 0 ≡ MARK → ⊥) × (getD (set l j v) c 0 ≡ getD l c 0))
-      was c m = ⊎-elim (λ p. inl (p .0)) (λ p. inr (p .0, (λ y. m (p .1 ∙ y)), p .1)) (at-set l j v c (marked-in l j e))
+      at : (c : ℕ) → ((c ≡ j) × (getD l′ c 0 ≡ σ .given)) ⊎ ((c ≡ j → ⊥) × (getD l′ c 0 ≡ getD (σ .held) c 0))
+      at c = at-set (σ .held) j (σ .given) c (marked-in (σ .held) j e)
 
-      now-shut : (c : ℕ) → Shut near l c → Shut near (set l j v) c
+      now-shut : (c : ℕ) → Shut near (σ .held) c → Shut near l′ c
       unfolding Shut
-      now-shut c t d nr m =
-          let p : Step v j l st k (set l j v) (set st k j) (k + 1) = push e h in
-          t d nr (step-kept v f p d m)
+      now-shut c t d nr m = t d nr (⊎-elim (λ p. absurd (f (sym (p .1) ∙ m))) (λ p. sym (p .1) ∙ m) (at d))
 
-      now-on : (c : ℕ) → On st k c → On (set st k j) (k + 1) c
-      unfolding On
-      now-on c (i, b, r) = (i, omega arith, getD-set-other st k i j 0 (omega arith) ∙ r)
+      -- a cell that is no mark afterwards is `j`, or was none before
+      right′ : (c : ℕ) → ink c ≡ true → (getD l′ c 0 ≡ MARK → ⊥) → (getD l′ c 0 ≡ label ink near n c) × (label ink near n c ≤ σ .given)
+      right′ c i m = ⊎-elim
+          (λ p. let z : label ink near n c ≡ label ink near n j = ap (label ink near n) (p .0) in (p .1 ∙ sym (z ∙ q), omega arith))
+          (λ p. let r = s .right c i (λ y. m (p .1 ∙ y)) in (p .1 ∙ r .0, r .1)) (at c)
 
-      on-top : On (set st k j) (k + 1) j
-      unfolding On
-      on-top = (k, omega arith, getD-set-same st k j 0 h)
+      closed′ : (c : ℕ) → ink c ≡ true → (getD l′ c 0 ≡ MARK → ⊥) → (c ≡ o) ⊎ (List·Memᴰ c (j ∷ σ .stack) ⊎ Shut near l′ c)
+      closed′ c i m = ⊎-elim (λ p. inr (inl (List·Memᴰ·head (p .0))))
+          (λ p. ⊎-elim inl (λ w. inr (⊎-elim (λ x. inl (List·Memᴰ·tail x)) (λ x. inr (now-shut c x)) w)) (s .closed c i (λ y. m (p .1 ∙ y))))
+          (at c)
 
-      push-fill : Fill ink near n o v (set l j v) (set st k j) (k + 1)
+      stacked′ : (c : ℕ) → List·Memᴰ c (j ∷ σ .stack) → (ink c ≡ true) × (label ink near n c ≡ σ .given)
+      stacked′ c (List·Memᴰ·head z) = (ap ink z ∙ i-j, ap (label ink near n) z ∙ q)
+      stacked′ c (List·Memᴰ·tail t) = s .stacked c t
+
+      push-fill : Fill ink near n o (push j σ)
       push-fill = record {
-        blank = λ c i. ⊎-elim (λ p. absurd (clash i-j (rw (p .0) at i))) (λ p. p .1 ∙ s .blank c i) (at-set l j v c (marked-in l j e));
-        right = λ c i m. ⊎-elim (λ p. rw p (getD-set-same l j v 0 (marked-in l j e) ∙ sym q, omega arith))
-            (λ p. (p .2 ∙ s .right c i (p .1) .0, s .right c i (p .1) .1)) (was c m);
-        closed = λ c i m. ⊎-elim (λ p. inr (inl (rw p on-top)))
-            (λ p. ⊎-elim inl (λ w. inr (⊎-elim (λ x. inl (now-on c x)) (λ x. inr (now-shut c x)) w)) (s .closed c i (p .1))) (was c m);
-        stacked = λ i b. ⊎-elim (λ p. rw (p .1) (i-j, q)) (λ p. rw (p .1) (s .stacked i (omega arith))) (at-set st k j i h);
+        blank = λ c i. ⊎-elim (λ p. absurd (clash i-j (sym (ap ink (p .0)) ∙ i))) (λ p. p .1 ∙ s .blank c i) (at c);
+        right = right′;
+        closed = closed′;
+        stacked = stacked′;
       }
 
-    -- A visit of a cell whose label is `v`, where a mark has a place on the stack.
-    pub step-fill : {o j k k′ : ℕ} {l st l′ st′ : List ℕ} → Step v j l st k l′ st′ k′ → Safe l st k
-        → (ink j ≡ true → label ink near n j ≡ v) → Fill ink near n o v l st k → Fill ink near n o v l′ st′ k′
-    step-fill {o} {j} (push {l = l} {st = st} {k = k} e h) b q s = push-fill o j k l st s e h (q (marked-ink s j e))
-    step-fill (pass e) b q s = s
+    -- a visit of a cell whose label is the last
+    pub visit-fill : (ink j ≡ true → label ink near n j ≡ σ .given) → Fill ink near n o (afterVisit j σ)
+    visit-fill q = visit-by (Fill ink near n o) j σ (λ e. push-fill e (q (marked-ink s j e))) (λ e. s)
 
-    -- Visits of cells near `o`, which has the label `v`.
-    pub run-fill : {o k k′ : ℕ} {l st l′ st′ : List ℕ} → Run (λ j. near o j ≡ true) v l st k l′ st′ k′ → Safe l st k → ink o ≡ true
-        → label ink near n o ≡ v → Fill ink near n o v l st k → Fill ink near n o v l′ st′ k′
-    run-fill stop b i q s = s
-    run-fill {o} (on j r p h t) b i q s =
-        step-fill t (run-safe v f (λ d. near o d ≡ true) r b) (λ x. sym (label-same ink near n g (step (here i) p x)) ∙ q)
-        (run-fill r b i q s)
+  -- visits of cells near `o`, which has the last label
+  pub visits-fill : (js : List ℕ) (o : ℕ) (σ : State) → (σ .given ≡ MARK → ⊥) → ((j : ℕ) → List·Memᴰ j js → near o j ≡ true) → ink o ≡ true
+      → label ink near n o ≡ σ .given → Fill ink near n o σ → Fill ink near n o (afterVisits js σ)
+  unfolding afterVisits
+  visits-fill [] o σ f nr i q s = s
+  visits-fill (j ∷ js) o σ f nr i q s =
+      let k = visit-kept σ f j .given in
+      visits-fill js o (afterVisit j σ) (λ e. f (sym k ∙ e)) (λ d t. nr d (List·Memᴰ·tail t)) i (q ∙ sym k)
+      (visit-fill o j σ f s (λ x. sym (label-same ink near n g (step (here i) (nr j (List·Memᴰ·head refl)) x)) ∙ q))
 
-  module _ (v : ℕ) where
-    -- The cell on top is taken from the stack, and is the one that is looked at.
-    pub pop-fill : (k : ℕ) (l st : List ℕ) → Fill ink near n n v l st (k + 1) → Fill ink near n (getD st k 0) v l st k
-    unfolding On
-    pop-fill k l st s = record {
-      blank = s .blank;
-      right = s .right;
-      closed = λ c i m. ⊎-elim (λ p. absurd (omega (arith, g .within c i))) (λ w. ⊎-elim (λ x. top c x) (λ x. inr (inr x)) w)
-          (s .closed c i m);
-      stacked = λ i b. s .stacked i (omega arith);
+  -- The cell on top is taken from the stack, and is the one that is looked at.
+  pub pop-fill : (c : ℕ) (rest : List ℕ) (σ : State) → σ .stack ≡ c ∷ rest → Fill ink near n n σ → Fill ink near n c (popped rest σ)
+  pop-fill c rest σ e s = record {
+    blank = s .blank;
+    right = s .right;
+    closed = λ d i m. ⊎-elim (λ p. absurd (omega (arith, g .within d i)))
+        (λ w. ⊎-elim (λ x. top d (subst (List·Memᴰ d) e x)) (λ x. inr (inr x)) w) (s .closed d i m);
+    stacked = λ d t. s .stacked d (subst (List·Memᴰ d) (sym e) (List·Memᴰ·tail t));
+  }
+    where
+      top : (d : ℕ) → List·Memᴰ d (c ∷ rest) → (d ≡ c) ⊎ (List·Memᴰ d rest ⊎ Shut near (σ .held) d)
+      top d (List·Memᴰ·head z) = inl z
+      top d (List·Memᴰ·tail t) = inr (inl t)
+
+  -- Once no cell near it is a mark, it is a cell as any other.
+  pub shut-fill : (o : ℕ) (σ : State) → Fill ink near n o σ → Shut near (σ .held) o → Fill ink near n n σ
+  shut-fill o σ s t = record {
+    blank = s .blank;
+    right = s .right;
+    closed = λ c i m. ⊎-elim (λ p. inr (inr (subst (Shut near (σ .held)) (sym p) t))) inr (s .closed c i m);
+    stacked = s .stacked;
+  }
+
+  -- With nothing on the stack, what is linked to a cell with a label has one.
+  pub linked-done : (σ : State) → Fill ink near n n σ → σ .stack ≡ [] → {a b : ℕ} → Linked ink near a b → (getD (σ .held) a 0 ≡ MARK → ⊥)
+      → getD (σ .held) b 0 ≡ MARK → ⊥
+  unfolding Shut
+  linked-done σ s e (here i) m = m
+  linked-done σ s e (step {b = b} {c = c} r nr i) m =
+      ⊎-elim
+      (λ p. absurd (omega (arith, g .within b (linked-right ink near r))))
+      (λ w. ⊎-elim (λ x. absurd (not-in (subst (List·Memᴰ b) e x))) (λ x. x c nr) w)
+      (s .closed b (linked-right ink near r) (linked-done σ s e r m))
+
+  -- Before a new group: all labels so far are at most the last, and so at most one more.
+  pub next-fill : (σ : State) → Fill ink near n n σ → σ .stack ≡ [] → Fill ink near n n (next σ)
+  next-fill σ s e = record {
+    blank = s .blank;
+    right = λ c i m. (s .right c i m .0, omega (arith, s .right c i m .1));
+    closed = s .closed;
+    stacked = λ c t. absurd (not-in (subst (List·Memᴰ c) e t));
+  }
+
+  module _ (round : ℕ → List ℕ) (a : Around near n round) where
+    top-fill : (st : List ℕ) (σ : State) → σ .stack ≡ st → (σ .given ≡ MARK → ⊥) → length (σ .held) ≡ n → Fill ink near n n σ
+        → Fill ink near n n (afterTop round st σ)
+    unfolding afterTop Shut
+    top-fill [] σ e f size s = s
+    top-fill (c ∷ rest) σ e f size s =
+        let i = s .stacked c (subst (List·Memᴰ c) (sym e) (List·Memᴰ·head refl)) in
+        let k = visits-kept (round c) (popped rest σ) f in
+        shut-fill c (afterVisits (round c) (popped rest σ))
+        (visits-fill (round c) c (popped rest σ) f (a .near-by c) (i .0) (i .1) (pop-fill c rest σ e s))
+        (λ d nr m. visits-done (round c) (popped rest σ) f d
+        (a .all c d nr (omega (arith, marked-in (afterVisits (round c) (popped rest σ) .held) d m, k .size))) m)
+
+    pub emptied-fill : (t : ℕ) (σ : State) → (σ .given ≡ MARK → ⊥) → length (σ .held) ≡ n → Fill ink near n n σ
+        → Fill ink near n n (emptied round t σ)
+    unfolding emptied
+    emptied-fill zero σ f size s = s
+    emptied-fill (suc t) σ f size s =
+        let k = looked-kept round (σ .stack) σ refl f in
+        emptied-fill t (afterTop round (σ .stack) σ) (λ e. f (sym (k .given) ∙ e)) (k .size ∙ size) (top-fill (σ .stack) σ refl f size s)
+
+    -- ---- group after group
+    pub outer-begin : (l : List ℕ) → length l ≡ n → ((c : ℕ) → getD l c 0 ≡ cond (ink c) MARK 0) → Outer ink near n 0 (start l)
+    unfolding count
+    outer-begin l size h = record {
+      fill = record {
+        blank = λ c i. h c ∙ rw i;
+        right = λ c i m. absurd (m (h c ∙ rw i));
+        closed = λ c i m. absurd (m (h c ∙ rw i));
+        stacked = λ c t. elim t [ ];
+      };
+      empty = refl;
+      size = size;
+      passed = λ c b. absurd (omega arith);
+      counted = refl;
+    }
+
+    outer-skip : (s : ℕ) (σ : State) → Outer ink near n s σ → (getD (σ .held) s 0 ≡ MARK → ⊥) → Outer ink near n (suc s) σ
+    outer-skip s σ o m = record {
+      fill = o .fill;
+      empty = o .empty;
+      size = o .size;
+      passed = λ c b. ⊎-elim (λ p. rw p m) (λ p. o .passed c p) (at-or-below c s b);
+      counted =
+          o .counted ∙ sym (count-no (first? ink near n) s (⊎-elim (λ p. absurd (new p)) (λ p. p) (which (first? ink near n s))));
     }
       where
-        top : (c : ℕ) → On st (k + 1) c → (c ≡ getD st k 0) ⊎ (On st k c ⊎ Shut near l c)
-        top c (i, b, e) = ⊎-elim (λ p. inl (sym e ∙ ap (λ (x : ℕ). getD st x 0) p)) (λ p. inr (inl (i, p, e)))
-            (at-or-below i k (rw add-one at b))
+        new : first? ink near n s ≡ true → ⊥
+        new p =
+            let i = first-ink ink near n g s p in
+            omega (arith, o .fill .right s i m .1, labelled ink near n g .counted s p, o .counted)
 
-    -- Once no ink cell near it is a mark, it is a cell as any other.
-    pub shut-fill : (o k : ℕ) (l st : List ℕ) → Fill ink near n o v l st k → Shut near l o → Fill ink near n n v l st k
-    shut-fill o k l st s t = record {
-      blank = s .blank;
-      right = s .right;
-      closed = λ c i m. ⊎-elim (λ p. inr (inr (rw p t))) inr (s .closed c i m);
-      stacked = s .stacked;
-    }
-
-    -- With nothing on the stack, what is linked to a cell with a label has one.
-    pub linked-done : (l st : List ℕ) → Fill ink near n n v l st 0 → {a b : ℕ} → Linked ink near a b → (getD l a 0 ≡ MARK → ⊥)
-        → getD l b 0 ≡ MARK → ⊥
-    unfolding On Shut
-    linked-done l st s (here i) m = m
-    linked-done l st s (step {b = b} {c = c} r nr i) m =
-        ⊎-elim
-        (λ p. absurd (omega (arith, g .within b (linked-right ink near r))))
-        (λ w. ⊎-elim (λ x. absurd (omega (arith, x .1))) (λ x. x c nr) w)
-        (s .closed b (linked-right ink near r) (linked-done l st s r m))
-
-    -- Before a new group: all labels so far are at most `v`, and so at most one more.
-    pub next-fill : (l st : List ℕ) → Fill ink near n n v l st 0 → Fill ink near n n (v + 1) l st 0
-    next-fill l st s = record {
-      blank = s .blank;
-      right = λ c i m. (s .right c i m .0, omega (arith, s .right c i m .1));
-      closed = s .closed;
-      stacked = λ i b. absurd (omega arith);
-    }
-
-  module _ (v : ℕ) (f : v ≡ MARK → ⊥) where
-    pub emptied-kept : {k k′ : ℕ} {l st l′ st′ : List ℕ} → Emptied near v l st k l′ st′ k′ → (c : ℕ) → getD l′ c 0 ≡ MARK
-        → getD l c 0 ≡ MARK
-    emptied-kept begin c m = m
-    emptied-kept (pop {st′ = st′} {k′ = k′} e r t) c m = emptied-kept e c (run-kept v f (λ j. near (getD st′ k′ 0) j ≡ true) r c m)
-
-    pub emptied-safe : {k k′ : ℕ} {l st l′ st′ : List ℕ} → Emptied near v l st k l′ st′ k′ → Safe l st k → Safe l′ st′ k′
-    emptied-safe begin s = s
-    emptied-safe (pop {st′ = st′} {k′ = k′} e r t) s =
-        run-safe v f (λ j. near (getD st′ k′ 0) j ≡ true) r (pop-safe _ _ _ (emptied-safe e s))
-
-    pub emptied-fill : {k k′ : ℕ} {l st l′ st′ : List ℕ} → Emptied near v l st k l′ st′ k′ → Safe l st k → Fill ink near n n v l st k
-        → Fill ink near n n v l′ st′ k′
-    emptied-fill begin b s = s
-    emptied-fill (pop {l′ = l′} {st′ = st′} {l″ = l″} {st″ = st″} {k′ = k′} {k″ = k″} e r t) b s =
-        let q : Fill ink near n n v l′ st′ (k′ + 1) = emptied-fill e b s in
-        let i = q .stacked k′ (omega arith) in
-        shut-fill v (getD st′ k′ 0) k″ l″ st″ (run-fill v f r (pop-safe _ _ _ (emptied-safe e b)) (i .0) (i .1) (pop-fill v k′ l′ st′ q)) t
-
-  -- ---- group after group
-
-  pub outer-begin : (l st : List ℕ) → ((c : ℕ) → getD l c 0 ≡ cond (ink c) MARK 0) → Outer ink near n 0 0 l st
-  unfolding count
-  outer-begin l st h = record {
-    fill = record {
-      blank = λ c i. h c ∙ rw i;
-      right = λ c i m. absurd (m (h c ∙ rw i));
-      closed = λ c i m. absurd (m (h c ∙ rw i));
-      stacked = λ i b. absurd (omega arith);
-    };
-    passed = λ c b. absurd (omega arith);
-    counted = refl;
-  }
-
-  pub outer-skip : (s v : ℕ) (l st : List ℕ) → Outer ink near n s v l st → (getD l s 0 ≡ MARK → ⊥) → Outer ink near n (s + 1) v l st
-  outer-skip s v l st o m = record {
-    fill = o .fill;
-    passed = λ c b. ⊎-elim (λ p. rw p m) (λ p. o .passed c p) (at-or-below c s (rw add-one at b));
-    counted = rw add-one
-        (o .counted ∙ sym (count-no (first? ink near n) s (⊎-elim (λ p. absurd (new p)) (λ p. p) (which (first? ink near n s)))));
-  }
-    where
-      new : first? ink near n s ≡ true → ⊥
-      new p =
-          let i = first-ink ink near n g s p in
-          omega (arith, o .fill .right s i m .1, labelled ink near n g .counted s p, o .counted)
-
-  pub outer-mark : (s v : ℕ) (l st l′ st′ : List ℕ) → v + 1 < MARK → Outer ink near n s v l st → getD l s 0 ≡ MARK
-      → Flooded near (v + 1) s l st l′ st′ → Outer ink near n (s + 1) (v + 1) l′ st′
-  outer-mark s v l st l′ st′ small o m d = record {
-    fill = emptied-fill (v + 1) f (d .rest) (step-safe (v + 1) f (d .entry) safe)
-        (step-fill (v + 1) f (d .entry) safe (λ i. label-s) (next-fill v l st (o .fill)));
-    passed = λ c b y. ⊎-elim (λ p. step-done (v + 1) f (d .entry) (rw p at (back c y)))
-        (λ p. o .passed c p (step-kept (v + 1) f (d .entry) c (back c y))) (at-or-below c s (rw add-one at b));
-    counted = omega (arith, o .counted, count-yes (first? ink near n) s new, ap (count (first? ink near n)) (add-one s));
-  }
-    where
-      f : v + 1 ≡ MARK → ⊥
+    module _ (s t : ℕ) (σ : State) (small : σ .given + 1 < MARK) (enough : n ≤ t) (o : Outer ink near n s σ)
+        (m : getD (σ .held) s 0 ≡ MARK) where
+      f : next σ .given ≡ MARK → ⊥
       f e = omega arith
 
-      back : (c : ℕ) → getD l′ c 0 ≡ MARK → getD (d .mid) c 0 ≡ MARK
-      back c y = emptied-kept (v + 1) f (d .rest) c y
+      abbrev τ : State
+      τ = afterVisit s (next σ)
 
-      safe : Safe l st 0
-      safe = safe-begin l st
+      k : Kept (next σ) τ
+      k = visit-kept (next σ) f s
+
+      f′ : τ .given ≡ MARK → ⊥
+      f′ e = f (sym (k .given) ∙ e)
 
       i-s : ink s ≡ true
       i-s = marked-ink (o .fill) s m
@@ -212,16 +218,45 @@ module _ (ink : ℕ → Bool) (near : ℕ → ℕ → Bool) (n : ℕ) (g : NearG
       leads = go (decLt (leader ink near n s) s)
         where
           go : Dec (leader ink near n s < s) → leader ink near n s ≡ s
-          go (yes b) = absurd (linked-done v l st (o .fill) (leader-linked ink near n g s i-s) (o .passed _ b) m)
+          go (yes b) = absurd (linked-done σ (o .fill) (o .empty) (leader-linked ink near n g s i-s) (o .passed _ b) m)
           go (no b) = omega (arith, leader-le ink near n g s)
 
       new : first? ink near n s ≡ true
       new = first-of ink near n g s i-s leads
 
-      label-s : label ink near n s ≡ v + 1
+      label-s : label ink near n s ≡ σ .given + 1
       label-s = omega (arith, labelled ink near n g .counted s new, o .counted)
 
-  pub outer-end : (v : ℕ) (l st : List ℕ) → Outer ink near n n v l st → (c : ℕ) → getD l c 0 ≡ label ink near n c
-  outer-end v l st o c =
-      ⊎-elim (λ i. o .fill .right c i (o .passed c (g .within c i)) .0) (λ i. o .fill .blank c i ∙ sym (label-none ink near n g c i))
-      (which (ink c))
+      room : length (τ .stack) + marks (τ .held) ≤ t
+      room =
+          let z : length (σ .stack) ≡ 0 = ap length (o .empty) in
+          omega (arith, k .fewer, marks-le (σ .held), o .size)
+
+      outer-mark : Outer ink near n (suc s) (emptied round t τ)
+      outer-mark =
+          let e = emptied-kept round t τ f′ in
+          record {
+            fill = emptied-fill t τ f′ (k .size ∙ o .size)
+                (visit-fill n s (next σ) f (next-fill σ (o .fill) (o .empty)) (λ i. label-s));
+            empty = emptied-empty round t τ f′ room;
+            size = e .size ∙ k .size ∙ o .size;
+            passed = λ c b y. ⊎-elim (λ p. visit-done (next σ) f s (subst (λ (x : ℕ). getD (τ .held) x 0 ≡ MARK) p (e .back c y)))
+                (λ p. o .passed c p (k .back c (e .back c y))) (at-or-below c s b);
+            counted = omega (arith, e .given, k .given, o .counted, count-yes (first? ink near n) s new);
+          }
+
+    outer-group : (s t : ℕ) (σ : State) → σ .given + 1 < MARK → n ≤ t → Outer ink near n s σ → Outer ink near n (suc s) (afterGroup round t s σ)
+    outer-group s t σ small enough o = group-by (Outer ink near n (suc s)) round t s σ (outer-mark s t σ small enough o) (outer-skip s σ o)
+
+    pub outer-groups : (s t : ℕ) (l : List ℕ) → s ≤ n → n + 1 < MARK → n ≤ t → Outer ink near n 0 (start l)
+        → Outer ink near n s (afterGroups round t s (start l))
+    unfolding afterGroups
+    outer-groups zero t l upto small enough o = o
+    outer-groups (suc s) t l upto small enough o =
+        let r = outer-groups s t l (omega arith) small enough o in
+        outer-group s t (afterGroups round t s (start l)) (omega (arith, r .counted, count-most (first? ink near n) s)) enough r
+
+    pub outer-end : (σ : State) → Outer ink near n n σ → (c : ℕ) → getD (σ .held) c 0 ≡ label ink near n c
+    outer-end σ o c =
+        ⊎-elim (λ i. o .fill .right c i (o .passed c (g .within c i)) .0) (λ i. o .fill .blank c i ∙ sym (label-none ink near n g c i))
+        (which (ink c))

@@ -1,19 +1,19 @@
 -- Laws of ink cells: pixels below a threshold counted row by row (row-step, box-step), the count of a cell (cell-ink-is), and marks as ink
--- cells (marks-inked). Assumes nothing.
+-- cells (marks-are). Assumes nothing.
 use mathlib.Core.Bool.{Bool, _&&_, cond, false, true}
 use mathlib.Core.List.{List}
 use mathlib.Core.Path.{_∙_, _≡_, ap, refl}
 use Prim.Native.Nat.{_%_, _*_, _+_, _-_, _/_, _<_, _≤_, ℕ}
-use native.Mathlib.Decide.{decLt}
 use native.Mathlib.Nat.{add-assoc, mul-comm, mul-le-mul-right, mul-one}
 use native.Mathlib.Omega.{arith}
 use lib.Dec.{leb, ltb}
 use lib.Ieee.{low}
-use lib.ListN.{List·getD-eq-default, drop, getD, length, length-drop, length-take, take}
-use lib.Seq.{getD-take}
-use borrow.Author.Tests.{le-ltb, lt-ltb}
-use Rattle.labels.specs.Inner.{Inked, CellInside, Levelled, below, cellMarkAt, rowBelow, MARK}
-use Rattle.laws.proofs.Folds.{fold-ext, fold-suc, getD-written}
+use lib.ListN.{drop, getD, length, length-drop, length-take, take}
+use lib.Seq.{getD-take, length-take-le}
+use borrow.Author.Tests.{lt-ltb}
+use Rattle.labels.specs.Inner.{CellInside, Levelled, below, cellMarkAt, rowBelow}
+use Rattle.labels.specs.Labelling.{MARK, markedCells}
+use Rattle.laws.proofs.Folds.{fold-ext, fold-suc, getD-written, is-tab}
 use Rattle.laws.proofs.Planes.{box-ext, box-more, getD-part, part}
 use Rattle.laws.specs.Fold.{bit, fold, sumTo}
 use Rattle.laws.specs.Plane.{Plane, box, boxRow, drawn, plane, rowwise}
@@ -93,23 +93,19 @@ cell-ink-is {s} {grid} {w} {h} held cx cy {t} lw lh et ex ey =
     (λ i j li lj. rw (half cx i (omega arith), half cy j (omega arith), level-t)))
 
 -- ---- marks
-pub marks-inked : (p : Plane) (w h : ℕ) (l old : List ℕ) → l ≡ drawn (cells8 w) (cells8 h) (cellMarkAt p w h) old
-    → Inked (inkCell p w h) (take (cellsOf w h) l)
-unfolding Inked inkCell cellMarkAt
-marks-inked p w h l old e c = go (decLt c (cellsOf w h))
+-- the marks that the code makes are those of the picture's cells
+pub marks-are : (p : Plane) (w h : ℕ) (l old : List ℕ) → cellsOf w h ≤ length l → l ≡ drawn (cells8 w) (cells8 h) (cellMarkAt p w h) old
+    → take (cellsOf w h) l ≡ markedCells p w h
+unfolding markedCells inkCell cellMarkAt
+marks-are p w h l old room e =
+    is-tab (cellsOf w h) (λ c. cond (inkCell p w h c) MARK 0) (take (cellsOf w h) l) (length-take-le (cellsOf w h) l room) mark
   where
-    n : ℕ
-    n = cellsOf w h
-
-    go : Dec (c < cellsOf w h)
+    mark : (c : ℕ) → c < cellsOf w h
         → getD (take (cellsOf w h) l) c 0 ≡ cond (ltb c (cellsOf w h) && leb 4 (inkPixels p w h (c % cells8 w) (c / cells8 w))) MARK 0
-    go (yes b) =
+    mark c b =
         let b′ : c < cells8 w * cells8 h = rw (mul-comm (cells8 h) (cells8 w)) at b in
         let t : ltb c (cellsOf w h) ≡ true = lt-ltb c (cellsOf w h) b in
         getD-take (cellsOf w h) l c 0 b
         ∙ ap (λ (k : List ℕ). getD k c 0) e
         ∙ getD-written (cells8 w * cells8 h) (rowwise (cells8 w) (cellMarkAt p w h)) old c 0 b′
         ∙ rw t
-    go (no b) =
-        let t : ltb c (cellsOf w h) ≡ false = le-ltb c (cellsOf w h) (omega arith) in
-        List·getD-eq-default (take (cellsOf w h) l) 0 (simp length-take (omega arith)) ∙ rw t

@@ -1,9 +1,9 @@
--- What labels are: `labelling`, of every picture.
+-- What labels are: `labelling`, of every picture; no label is above the number of groups: cell-most.
 --     label-some, label-most, label-zero     which labels there are
 --     first-lead                             the first cell of a label leads its group
 -- Assumes nothing.
 use mathlib.Core.Path.{_≡_}
-use mathlib.Core.Logic.{_⊎_, inl, inr}
+use mathlib.Core.Logic.{_⊎_, inl, inr, ⊎-elim}
 use mathlib.Core.Bool.{Bool, true, false}
 use Prim.Native.Nat.{ℕ, _<_, _≤_}
 use native.Mathlib.Omega.{arith}
@@ -69,3 +69,7 @@ labelling p w h = record {
 
     g : NearGrid ink n k
     g = grid-of p w h
+
+pub cell-most : (p : Plane) (w h c : ℕ) → cellLabel p w h c ≤ groupsOf p w h
+cell-most p w h c =
+    ⊎-elim (λ i. labelling p w h .most c i .1) (λ i. omega (arith, labelling p w h .none c .1 i)) (which (inkCell p w h c))

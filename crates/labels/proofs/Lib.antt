@@ -6,9 +6,10 @@ pub mod Order
 pub mod Moving
 pub mod Pictures
 pub mod Labelled
-pub mod VisitLaws
-pub mod Window
+pub mod States
 pub mod FillLaws
+pub mod Window
+pub mod Loops
 pub mod Labellings
+pub mod Pushes
 pub mod InkCells
-pub mod Cleared

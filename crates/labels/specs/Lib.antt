@@ -1,4 +1,5 @@
 pub mod Labels
 pub mod Cells
+pub mod Labelling
 pub mod Inner
 pub mod Claims

@@ -1,45 +1,32 @@
 // Groups of ink cells, each within three columns and three rows of the next, and their labels.
 //
-// In `labels` 0 is a cell without ink and MARK an ink cell that has no label yet.
+// In `labels` 0 is a cell without ink and MARK an ink cell that has no label yet. The first places
+// of `stack`, as many as its depth says, hold cells of which the cells near are still to be visited.
 ghost use mathlib.Core.Path.{_≡_};
 ghost use Prim.Native.Nat.{_+_, _*_, _-_, _<_, _≤_, min};
-ghost use lib.ListN.{length};
-ghost use Rattle.labels.specs.Labels.{near};
-ghost use Rattle.labels.specs.Inner.{MARK, Step, Rowed, Neared, Safe, Or, Fills, One, Labels, Answers};
-use crate::clearing::clear;
+ghost use lib.ListN.{length, take};
+ghost use Rattle.laws.specs.Lent.{UntouchedPast, laid};
+ghost use Rattle.laws.specs.Lists.{range};
+ghost use Rattle.labels.specs.Labelling.{MARK, State, afterVisit, afterVisits, window, emptied, afterGroup, labelling};
+ghost use Rattle.labels.specs.Inner.{Shows, Safe, CellGrid};
 
 pub const MARK: u32 = 4294967295;
 
-// The depth of the stack, or that a push found it full.
-pub enum Depth {
-    At(usize),
-    Full,
-}
-
-// How many labels are given, or that a push found the stack full.
-pub enum Next {
-    At(u32),
-    Full,
-}
-
-// A visit of the cell `j`: where it is a mark it gets the label `v` and is pushed.
-fn visit(labels: &mut [u32], stack: &mut [u32], depth: usize, j: usize, v: u32) -> Depth
+// A visit of the cell `j`: where it is a mark it gets the label `v` and is pushed. The depth of the
+// stack then.
+fn visit(labels: &mut [u32], stack: &mut [u32], depth: usize, j: usize, v: u32) -> usize
     requires { ⌜ Safe (now labels) (now stack) depth ⌝ }
     requires { ⌜ (j < length (now labels)) × (length (now labels) ≤ 262144) ⌝ }
     ensures { λ r. ⌜
-        Or (Step v j (now (labels .entry)) (now (stack .entry)) depth (now (labels .exit))
-        (now (stack .exit)))
-        (now (labels .entry)) (now (stack .entry)) r ⌝ }
+        ((σ : State) → Shows (now (labels .entry)) (now (stack .entry)) depth v σ
+        → Shows (now (labels .exit)) (now (stack .exit)) r v (afterVisit j σ)) ⌝ }
 {
     if labels[j] != MARK {
-        return Depth::At(depth);
-    }
-    if stack.len() <= depth {
-        return Depth::Full;
+        return depth;
     }
     labels[j] = v;
     stack[depth] = j as u32;
-    Depth::At(depth + 1)
+    depth + 1
 }
 
 // The visits of the cells from `a` up to `b` of the list.
@@ -50,24 +37,21 @@ fn visit_row(
     a: usize,
     b: usize,
     v: u32,
-) -> Depth
+) -> usize
     requires { ⌜ Safe (now labels) (now stack) depth ⌝ }
-    requires { ⌜ (b ≤ length (now labels)) × (length (now labels) ≤ 262144) × (v < MARK) ⌝ }
+    requires { ⌜
+        (a ≤ b) × (b ≤ length (now labels)) × (length (now labels) ≤ 262144) × (v < MARK) ⌝ }
     ensures { λ r. ⌜
-        Or (Rowed a b v (now (labels .entry)) (now (stack .entry)) depth (now (labels .exit))
-        (now (stack .exit)))
-        (now (labels .entry)) (now (stack .entry)) r ⌝ }
+        ((σ : State) → Shows (now (labels .entry)) (now (stack .entry)) depth v σ
+        → Shows (now (labels .exit)) (now (stack .exit)) r v (afterVisits (range a (b - a)) σ)) ⌝ }
 {
     let mut k = depth;
     let mut j = a;
     while j < b {
-        let Depth::At(next) = visit(labels, stack, k, j, v) else {
-            return Depth::Full;
-        };
-        k = next;
+        k = visit(labels, stack, k, j, v);
         j += 1;
     }
-    Depth::At(k)
+    k
 }
 
 // The visits of the cells of row `g` from column `x0` up to `x1`, in rows of `w` cells.
@@ -80,17 +64,17 @@ fn visit_line(
     x0: usize,
     x1: usize,
     v: u32,
-) -> Depth
+) -> usize
     requires { ⌜ Safe (now labels) (now stack) depth ⌝ }
     requires { ⌜
-        (g * w + x1 ≤ length (now labels))
-        × (x0 ≤ x1)
+        (x0 ≤ x1)
+        × (g * w + x1 ≤ length (now labels))
         × (length (now labels) ≤ 262144)
         × (v < MARK) ⌝ }
     ensures { λ r. ⌜
-        Or (Rowed (g * w + x0) (g * w + x1) v (now (labels .entry)) (now (stack .entry)) depth
-        (now (labels .exit)) (now (stack .exit)))
-        (now (labels .entry)) (now (stack .entry)) r ⌝ }
+        ((σ : State) → Shows (now (labels .entry)) (now (stack .entry)) depth v σ
+        → Shows (now (labels .exit)) (now (stack .exit)) r v
+        (afterVisits (range (g * w + x0) (g * w + x1 - (g * w + x0))) σ)) ⌝ }
 {
     visit_row(labels, stack, depth, g * w + x0, g * w + x1, v)
 }
@@ -119,18 +103,13 @@ fn visit_near(
     w: usize,
     h: usize,
     v: u32,
-) -> Depth
+) -> usize
     requires { ⌜ Safe (now labels) (now stack) depth ⌝ }
-    requires { ⌜
-        (i < length (now labels))
-        × (length (now labels) ≡ h * w)
-        × (length (now labels) ≤ 262144)
-        × (0 < w)
-        × (v < MARK) ⌝ }
+    requires { ⌜ CellGrid (now labels) w h ⌝ }
+    requires { ⌜ (i < length (now labels)) × (v < MARK) ⌝ }
     ensures { λ r. ⌜
-        Or (Neared w i v (now (labels .entry)) (now (stack .entry)) depth (now (labels .exit))
-        (now (stack .exit)))
-        (now (labels .entry)) (now (stack .entry)) r ⌝ }
+        ((σ : State) → Shows (now (labels .entry)) (now (stack .entry)) depth v σ
+        → Shows (now (labels .exit)) (now (stack .exit)) r v (afterVisits (window w h i) σ)) ⌝ }
 {
     let x = i % w;
     let y = i / w;
@@ -140,102 +119,76 @@ fn visit_near(
     let mut k = depth;
     let mut g = low(y);
     while g < y1 {
-        let Depth::At(next) = visit_line(labels, stack, k, g, w, x0, x1, v) else {
-            return Depth::Full;
-        };
-        k = next;
+        k = visit_line(labels, stack, k, g, w, x0, x1, v);
         g += 1;
     }
-    Depth::At(k)
+    k
 }
 
-// The fill of the group of the cell `s` with the label `v`: true, or false where the stack was
-// full.
-fn flood(labels: &mut [u32], stack: &mut [u32], s: usize, w: usize, h: usize, v: u32) -> bool
+// The fill of the group of the cell `s` with the label `v`: a visit of it, and of the cells near
+// each cell that is taken from the stack, until that is empty.
+fn flood(labels: &mut [u32], stack: &mut [u32], s: usize, w: usize, h: usize, v: u32)
+    requires { ⌜ CellGrid (now labels) w h ⌝ }
     requires { ⌜
-        (s < length (now labels))
-        × (length (now labels) ≡ h * w)
-        × (length (now labels) ≤ 262144)
-        × (0 < w)
-        × (v < MARK) ⌝ }
-    ensures { λ r. ⌜
-        Fills (near w) v s (now (labels .entry)) (now (stack .entry)) (now (labels .exit))
-        (now (stack .exit)) r ⌝ }
+        (s < length (now labels)) × (length (now labels) ≤ length (now stack)) × (v < MARK) ⌝ }
+    ensures { λ _. ⌜
+        ((σ : State) → Shows (now (labels .entry)) (now (stack .entry)) 0 v σ
+        → Shows (now (labels .exit)) (now (stack .exit)) 0 v
+        (emptied (window w h) (h * w) (afterVisit s σ))) ⌝ }
 {
-    let Depth::At(first) = visit(labels, stack, 0, s, v) else {
-        return false;
-    };
-    let mut k = first;
+    let mut k = visit(labels, stack, 0, s, v);
     while k > 0 {
         k -= 1;
         let i = stack[k] as usize;
-        let Depth::At(next) = visit_near(labels, stack, k, i, w, h, v) else {
-            return false;
-        };
-        k = next;
+        k = visit_near(labels, stack, k, i, w, h, v);
     }
-    true
 }
 
-// The cell `s`, after `v` labels: where it is a mark, its group gets the next one.
-fn label_at(labels: &mut [u32], stack: &mut [u32], s: usize, w: usize, h: usize, v: u32) -> Next
+// The cell `s`, after `v` labels: where it is a mark, its group gets the next one. How many labels
+// there are then.
+fn label_at(labels: &mut [u32], stack: &mut [u32], s: usize, w: usize, h: usize, v: u32) -> u32
+    requires { ⌜ CellGrid (now labels) w h ⌝ }
     requires { ⌜
-        (s < length (now labels))
-        × (length (now labels) ≡ h * w)
-        × (length (now labels) ≤ 262144)
-        × (0 < w)
-        × (v ≤ 262144) ⌝ }
-    ensures { λ r. ⌜
-        One (near w) v s (now (labels .entry)) (now (stack .entry)) (now (labels .exit))
-        (now (stack .exit)) r ⌝ }
+        (s < length (now labels)) × (length (now labels) ≤ length (now stack)) × (v ≤ 262144) ⌝ }
+    ensures few { λ r. ⌜ r ≤ v + 1 ⌝ }
+    ensures state { λ r. ⌜
+        ((σ : State) → Shows (now (labels .entry)) (now (stack .entry)) 0 v σ
+        → Shows (now (labels .exit)) (now (stack .exit)) 0 r
+        (afterGroup (window w h) (h * w) s σ)) ⌝ }
 {
     if labels[s] != MARK {
-        return Next::At(v);
+        return v;
     }
-    if flood(labels, stack, s, w, h, v + 1) {
-        return Next::At(v + 1);
-    }
-    Next::Full
+    flood(labels, stack, s, w, h, v + 1);
+    v + 1
 }
 
-// The labels of a grid of `h` rows of `w` cells in which MARK is an ink cell and 0 any other.
-fn label_cells(labels: &mut [u32], stack: &mut [u32], w: usize, h: usize) -> Next
-    requires { ⌜ (length (now labels) ≡ h * w) × (length (now labels) ≤ 262144) × (0 < w) ⌝ }
+// The labels of a grid of `h` rows of `w` cells in which MARK is an ink cell and 0 any other, and
+// how many there are.
+fn label_cells(labels: &mut [u32], stack: &mut [u32], w: usize, h: usize) -> u32
+    requires { ⌜ CellGrid (now labels) w h × (length (now labels) ≤ length (now stack)) ⌝ }
     ensures { λ r. ⌜
-        Labels w (h * w) (now (labels .entry)) (now (stack .entry)) (now (labels .exit)) r ⌝ }
+        Shows (now (labels .exit)) (now (stack .exit)) 0 r (labelling w h (now (labels .entry))) ⌝ }
 {
     let mut next: u32 = 0;
     let mut s = 0;
     while s < labels.len() {
-        let Next::At(n) = label_at(labels, stack, s, w, h, next) else {
-            return Next::Full;
-        };
-        next = n;
+        next = label_at(labels, stack, s, w, h, next);
         s += 1;
     }
-    Next::At(next)
+    next
 }
 
-fn least(a: usize, b: usize) -> usize
-    ensures { λ r. ⌜ r ≡ min a b ⌝ }
-{
-    if a < b { a } else { b }
-}
-
-// The same for a grid in the first places of a list. Where a push finds the stack full, both lists
-// are cleared, every place of them.
-pub fn label_all(labels: &mut [u32], stack: &mut [u32], w: usize, h: usize) -> Next
-    requires { ⌜ (h * w ≤ length (now labels)) × (h * w ≤ 262144) × (0 < w) ⌝ }
-    ensures { λ r. ⌜
-        Answers w (h * w) (now (labels .entry)) (now (stack .entry)) (now (labels .exit))
-        (now (stack .exit)) r ⌝ }
+// The same for a grid in the first places of a list, with as many places on the stack.
+pub fn label_all(labels: &mut [u32], stack: &mut [u32], w: usize, h: usize) -> u32
+    requires { ⌜
+        (h * w ≤ length (now labels)) × (h * w ≤ length (now stack)) × (h * w ≤ 262144) × (0 < w) ⌝ }
+    ensures answer { λ r. ⌜ r ≡ labelling w h (take (h * w) (now (labels .entry))) .given ⌝ }
+    ensures labels { λ _. ⌜
+        now (labels .exit)
+        ≡ laid (labelling w h (take (h * w) (now (labels .entry))) .held) (now (labels .entry)) ⌝ }
+    ensures stack_past { λ _. ⌜ UntouchedPast (h * w) (now (stack .entry)) (now (stack .exit)) ⌝ }
 {
     let n = h * w;
-    let m = least(n, stack.len());
-    let Next::At(v) = label_cells(&mut labels[..n], &mut stack[..m], w, h) else {
-        clear(labels);
-        clear(stack);
-        return Next::Full;
-    };
-    Next::At(v)
+    label_cells(&mut labels[..n], &mut stack[..n], w, h)
 }

@@ -1,12 +1,14 @@
--- Lists one after the other: joined-more, joined-add, joined-ext, joined-none, joined-le. Assumes nothing.
-use mathlib.Core.Path.{_≡_, refl, sym, ap, _∙_}
-use mathlib.Core.List.{List, [], _++_, append-assoc, append-nil}
+-- Lists one after the other: joined-more, joined-add, joined-ext, joined-none, joined-le, joined-mem, joined-has. Assumes nothing.
+use mathlib.Core.Path.{_≡_, refl, sym, ap, subst, _∙_}
+use mathlib.Core.Logic.{_⊎_, inl, inr}
+use mathlib.Core.List.{List, [], _++_, append-assoc, append-nil, List·Memᴰ, List·Memᴰ·append-cases, Memᴰ·append-left, Memᴰ·append-right}
 use Prim.Native.Nat.{ℕ, zero, suc, _+_, _*_, _≤_, _<_}
 use native.Mathlib.Nat.{add-zero, add-suc}
 use native.Mathlib.Numerals.{add-one}
 use native.Mathlib.Omega.{arith}
 use lib.ListN.{length, length-append}
 use Rattle.laws.specs.Fold.{joined}
+use Rattle.laws.proofs.Bools.{at-or-below}
 
 pub joined-more : {A : Type 0} (n : ℕ) (f : ℕ → List A) → joined (n + 1) f ≡ joined n f ++ f n
 unfolding joined
@@ -37,3 +39,23 @@ pub joined-le : {A : Type 0} (k n : ℕ) (f : ℕ → List A) → ((i : ℕ) →
 unfolding joined
 joined-le k zero f few = omega arith
 joined-le k (suc n) f few = rw (length-append (joined n f) (f n)) (omega (arith, joined-le k n f few, few n))
+
+-- ---- what is in it
+pub joined-mem : {A : Type 0} (n : ℕ) (f : ℕ → List A) (q : A) → List·Memᴰ q (joined n f) → (i : ℕ) × (i < n) × List·Memᴰ q (f i)
+unfolding joined
+joined-mem zero f q t = elim t [ ]
+joined-mem (suc n) f q t = go (List·Memᴰ·append-cases (joined n f) t) (joined-mem n f q)
+  where
+    go : List·Memᴰ q (joined n f) ⊎ List·Memᴰ q (f n) → (List·Memᴰ q (joined n f) → (i : ℕ) × (i < n) × List·Memᴰ q (f i))
+        → (i : ℕ) × (i < suc n) × List·Memᴰ q (f i)
+    go (inl s) ih = let r = ih s in (r .0, omega (arith, r .1), r .2)
+    go (inr s) ih = (n, omega arith, s)
+
+pub joined-has : {A : Type 0} (n : ℕ) (f : ℕ → List A) (q : A) (i : ℕ) → i < n → List·Memᴰ q (f i) → List·Memᴰ q (joined n f)
+unfolding joined
+joined-has zero f q i l t = absurd (omega arith)
+joined-has (suc n) f q i l t = go (at-or-below i n l) (λ m. joined-has n f q i m t)
+  where
+    go : (i ≡ n) ⊎ (i < n) → (i < n → List·Memᴰ q (joined n f)) → List·Memᴰ q (joined (suc n) f)
+    go (inl e) ih = Memᴰ·append-right (joined n f) (subst (λ (k : ℕ). List·Memᴰ q (f k)) e t)
+    go (inr m) ih = Memᴰ·append-left (f n) (ih m)

@@ -10,8 +10,8 @@ use native.Mathlib.Omega.{arith}
 use lib.ListN.{length, take, drop}
 use lib.Seq.{take-at}
 use lib.Ieee.{Float}
+use Rattle.laws.specs.Lists.{range}
 use Rattle.hull.proofs.Walks.{points-long, walk-few}
-use Rattle.whole.specs.Hull.{range}
 use Rattle.whole.specs.Walk.{hullWith, lowestWith}
 use Rattle.hull.specs.Points.{many}
 use Rattle.hull.specs.Hull.{hullTests, hullOf, hullFloats}

@@ -1,12 +1,12 @@
 -- The picture door, by rules 14 and 15: its answer, and what it leaves in the lent lists.
 -- `s` holds the picture's bytes, w and h are its sides. Definitions only. Assumes nothing.
-use mathlib.Core.Bool.{Bool, true, false, cond, _||_}
+use mathlib.Core.Bool.{Bool, true, false, cond}
 use mathlib.Core.List.{List}
 use mathlib.Core.Path.{_≡_}
 use Prim.Native.Nat.{ℕ, zero, suc, _*_}
 use lib.Dec.{eqb, leb}
 use lib.ListN.{length}
-use Rattle.laws.specs.Lent.{UntouchedPast, zeros}
+use Rattle.laws.specs.Lent.{UntouchedPast}
 use Rattle.laws.specs.Check.{orRefuse}
 use Rattle.picture_checks.specs.Picture.{checkPicture}
 use Rattle.laws.specs.Plane.{plane, drawn}
@@ -18,8 +18,7 @@ use Rattle.regions.specs.Regions.{keptRegions, noRegions}
 
 -- ---- the checks
 
--- 3: a lent grid shorter than its cells, or the stack shorter than the region cells. 0 is no refusal. Refusal 4, a push that finds the
--- stack full, is no number of this chain: with as many places on the stack as there are region cells no push finds it full.
+-- 3: a lent grid shorter than its cells, or the stack shorter than the region cells. 0 is no refusal.
 abbrev pub checkGrids : ℕ → ℕ → ℕ → ℕ → ℕ → ℕ → ℕ
 checkGrids w h bytes grid labels stack =
     checkPicture w h bytes
@@ -42,19 +41,17 @@ answerBy (suc n) k = refusedBy (suc n)
 abbrev pub pictureAnswer : List ℕ → ℕ → ℕ → ℕ → ℕ → ℕ → PictureAnswer
 pictureAnswer s w h grid labels stack = answerBy (checkGrids w h (length s) grid labels stack) (keptRegions (plane w s) w h)
 
--- By the answer's number n: the level grid after the call. It is finished at refusal 4 too.
+-- By the answer's number n: the level grid and the labels after the call.
 abbrev pub levelsAfter : ℕ → List ℕ → ℕ → ℕ → List ℕ → List ℕ
-levelsAfter n s w h old = cond (eqb n 0 || eqb n 4) (drawn (cells w) (cells h) (level (plane w s) w h) old) old
+levelsAfter n s w h old = cond (eqb n 0) (drawn (cells w) (cells h) (level (plane w s) w h) old) old
 
--- The labels after the call, all zero at refusal 4.
 abbrev pub labelsAfter : ℕ → List ℕ → ℕ → ℕ → List ℕ → List ℕ
-labelsAfter n s w h old = cond (eqb n 0) (drawn (cells8 w) (cells8 h) (labelAt (plane w s) w h) old) (cond (eqb n 4) (zeros old) old)
+labelsAfter n s w h old = cond (eqb n 0) (drawn (cells8 w) (cells8 h) (labelAt (plane w s) w h) old) old
 
--- The stack after the call: a working list of which n places are needed where the regions are given, all zero at refusal 4.
-abbrev pub StackBy : Bool → Bool → ℕ → List ℕ → List ℕ → Type 0
-StackBy true full n old new = UntouchedPast n old new
-StackBy false true n old new = new ≡ zeros old
-StackBy false false n old new = new ≡ old
+-- The stack after the call: a working list of which n places are needed where the regions are given.
+abbrev pub StackBy : Bool → ℕ → List ℕ → List ℕ → Type 0
+StackBy true n old new = UntouchedPast n old new
+StackBy false n old new = new ≡ old
 
 abbrev pub StackAfter : ℕ → ℕ → ℕ → List ℕ → List ℕ → Type 0
-StackAfter n w h old new = StackBy (eqb n 0) (eqb n 4) (cellsOf w h) old new
+StackAfter n w h old new = StackBy (eqb n 0) (cellsOf w h) old new

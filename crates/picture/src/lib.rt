@@ -5,16 +5,14 @@ ghost use lib.ListN.{length};
 ghost use Rattle.laws.specs.Plane.{plane, drawn};
 ghost use Rattle.levels.specs.Level.{cells, level};
 ghost use Rattle.picture_checks.specs.Picture.{Picture, Sides};
-ghost use Rattle.levels.specs.Inner.{LevelRooms};
-ghost use Rattle.labels.specs.Cells.{cellsOf};
+ghost use Rattle.labels.specs.Cells.{cells8, cellsOf, labelAt, groupsOf};
 ghost use Rattle.picture.specs.Door.{checkGrids, refusedBy, pictureAnswer, levelsAfter, labelsAfter, StackAfter};
 ghost use Rattle.regions.specs.Regions.{keptRegions};
 ghost use Rattle.laws.specs.Lent.{UntouchedPast};
-ghost use Rattle.picture.specs.Inner.{ListRooms, LabelledAfter, LabelledBy};
+ghost use Rattle.picture.specs.Inner.{ListRooms, LabelledBy};
 use crate::answer::PictureAnswer;
 use labels::cells::mark_cells;
 use labels::cells::region_cells;
-use labels::groups::Next;
 use labels::groups::label_all;
 use levels::cells::cells_of;
 use levels::level_grid;
@@ -56,8 +54,8 @@ pub fn check(w: usize, h: usize, bytes: usize, grid: usize, labels: usize, stack
     check_lists(w, h, bytes, grid, labels, stack)
 }
 
-// The level grid and the labels of a picture, and how many labels there are; or that a push found
-// the stack full. Before labelling, the two lists of cells hold dark and light levels.
+// The level grid and the labels of a picture, and how many labels there are. Before labelling, the
+// two lists of cells hold dark and light levels.
 fn ink_map(
     s: &[u8],
     w: usize,
@@ -65,16 +63,17 @@ fn ink_map(
     grid: &mut [u8],
     labels: &mut [u32],
     stack: &mut [u32],
-) -> Next
+) -> u32
     requires { ⌜ Picture (now s) w h ⌝ }
-    requires { ⌜ LevelRooms (cells w * cells h) (now grid) (now labels) (now stack) ⌝ }
-    requires { ⌜ cellsOf w h ≤ length (now labels) ⌝ }
+    requires { ⌜ ListRooms w h (length (now grid)) (length (now labels)) (length (now stack)) ⌝ }
+    ensures answer { λ r. ⌜ r ≡ groupsOf (plane w (now (s .entry))) w h ⌝ }
     ensures grid { λ _. ⌜
         now (grid .exit)
         ≡ drawn (cells w) (cells h) (level (plane w (now (s .entry))) w h) (now (grid .entry)) ⌝ }
-    ensures labels { λ r. ⌜
-        LabelledAfter (now (s .entry)) w h (now (labels .entry)) (now (stack .entry))
-        (now (labels .exit)) (now (stack .exit)) r ⌝ }
+    ensures labels { λ _. ⌜
+        now (labels .exit)
+        ≡ drawn (cells8 w) (cells8 h) (labelAt (plane w (now (s .entry))) w h) (now (labels .entry)) ⌝ }
+    ensures stack_past { λ _. ⌜ UntouchedPast (cellsOf w h) (now (stack .entry)) (now (stack .exit)) ⌝ }
 {
     level_grid(s, w, h, grid, labels, stack);
     mark_cells(s, w, h, grid, labels);
@@ -120,8 +119,7 @@ pub fn refusal(n: u32) -> PictureAnswer
 
 // The picture door. It lends a grid of one byte a level cell, and two lists of one number a region
 // cell: labels and the stack. Refusals: 1, a side outside 1..4,096; 2, bytes not width times
-// height; 3, a lent list too short; 4, a push finds the stack full, which does not happen where 3
-// is passed.
+// height; 3, a lent list too short.
 pub fn picture(
     s: &[u8],
     w: usize,
@@ -145,9 +143,7 @@ pub fn picture(
     if no != 0 {
         return refusal(no);
     }
-    let Next::At(v) = ink_map(s, w, h, grid, labels, stack) else {
-        return refusal(4);
-    };
+    let v = ink_map(s, w, h, grid, labels, stack);
     let found = count_regions(s, w, h, labels, stack, v);
     PictureAnswer {
         refused: 0,

@@ -1,5 +1,5 @@
 // Cells counted by label.
-use labels::clearing::clear;
+use crate::clearing::clear;
 ghost use mathlib.Core.Path.{_≡_};
 ghost use Prim.Native.Nat.{ℕ, _<_, _≤_};
 ghost use lib.ListN.{length, getD};

@@ -9,8 +9,8 @@ use native.Mathlib.Omega.{arith}
 use lib.Dec.{ltb}
 use lib.ListN.{length, getD, length-append, length-map}
 use lib.Ieee.{Float}
+use Rattle.laws.specs.Lists.{range}
 use Rattle.hull.proofs.Floats.{length-numbers}
-use Rattle.whole.specs.Hull.{range}
 use Rattle.whole.specs.Walk.{Ops, keep, farthestWith, ends, quadWith}
 use Rattle.hull.specs.Points.{numbersOf, floatsOf, Small}
 use Rattle.hull.specs.Hull.{hullOf, hullPoints}

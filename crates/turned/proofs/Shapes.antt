@@ -9,10 +9,11 @@ use mathlib.Core.List.{List, [], _∷_, List·Memᴰ, List·Memᴰ·head, List·
 use Prim.Native.Nat.{ℕ, _*_, _≤_, _<_}
 use native.Mathlib.Omega.{arith}
 use lib.IntN.{natAbs}
+use Rattle.laws.specs.Lists.{NoDup}
 use Rattle.laws.specs.Plane.{Plane, Alike}
 use Rattle.laws.specs.Move.{Move, still, flipped, turned, sidesOf, wideOf, highOf, moved, Box}
 use Rattle.laws.proofs.Moves.{sides-times}
-use Rattle.whole.specs.Points.{Pt, Mem, Rot, NoDup, Clockwise, Starts}
+use Rattle.whole.specs.Points.{Pt, Mem, Rot, Clockwise, Starts}
 use Rattle.whole.specs.Hull.{hull}
 use Rattle.whole.specs.Quad.{quad, Far, OneTop}
 use Rattle.whole.specs.Moves.{movedRound}

@@ -10,9 +10,10 @@ use mathlib.Core.Logic.{_↔_}
 use mathlib.Core.Bool.{true}
 use mathlib.Core.List.{List}
 use Prim.Native.Nat.{ℕ, _*_, _<_}
+use Rattle.laws.specs.Lists.{NoDup}
 use Rattle.laws.specs.Plane.{Plane, plane}
 use Rattle.laws.specs.Move.{Move, wideOf, highOf, placeOf, boxOf, movedBytes}
-use Rattle.whole.specs.Points.{Pt, Rot, NoDup, Clockwise, Starts}
+use Rattle.whole.specs.Points.{Pt, Rot, Clockwise, Starts}
 use Rattle.whole.specs.Quad.{Far, OneTop}
 use Rattle.whole.specs.Moves.{often, movedPoint, movedRound}
 use Rattle.levels.specs.Level.{level, inkAt}

@@ -5,8 +5,9 @@ use mathlib.Core.Logic.{_↔_}
 use mathlib.Core.List.{List}
 use Prim.Native.Nat.{ℕ}
 use lib.Ieee.{Float}
+use Rattle.laws.specs.Lists.{NoDup}
 use Rattle.laws.specs.Move.{Move}
-use Rattle.whole.specs.Points.{Pt, Rot, NoDup, Clockwise, Starts}
+use Rattle.whole.specs.Points.{Pt, Rot, Clockwise, Starts}
 use Rattle.whole.specs.Quad.{Far, OneTop}
 use Rattle.whole.specs.Moves.{often, movedPoint, movedRound}
 use Rattle.hull.specs.Points.{ptsOf, floatsOf, numbersOf}

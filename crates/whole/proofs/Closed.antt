@@ -17,10 +17,11 @@ use mathlib.Core.List.{
   Memᴰ·append-right,
   List·Memᴰ·append-cases,
 }
+use Rattle.laws.specs.Lists.{NoDup}
 use Rattle.whole.specs.Numbers.{neg, NN, PP}
 use Rattle.whole.proofs.Sums.{neg-neg}
 use Rattle.whole.proofs.Ord.{pn, p0, nn≡, pp≡, z0, pnn, cmp}
-use Rattle.whole.specs.Points.{Fan, Clockwise, NoDup, Pt, cross, Mem, Rot}
+use Rattle.whole.specs.Points.{Fan, Clockwise, Pt, cross, Mem, Rot}
 use Rattle.whole.proofs.Turns.{lin, cyc, rot2, cross-same, cross-l, At, lin-self}
 use Rattle.whole.proofs.Edge.{Side, Edge, Ext, pt-dec, ext-of-edge, side-unique, not-between, strict, not-inside, fan}
 use Rattle.whole.proofs.Run.{Run}

@@ -6,11 +6,13 @@ use mathlib.Core.Path.{_≡_, refl, sym, _∙_, ap, subst}
 use mathlib.Core.Logic.{_⊎_, inl, inr}
 use mathlib.Core.Bool.{Bool, true, false, _&&_, _||_}
 use mathlib.Core.List.{List, [], _∷_, List·Memᴰ, List·Memᴰ·head, List·Memᴰ·tail, Memᴰ·cast}
-use Prim.Native.Nat.{ℕ, zero, suc, _+_, _%_, _≤_, _<_, suc-le-suc}
+use Prim.Native.Nat.{ℕ, zero, suc, _+_, _%_, _<_, suc-le-suc}
 use native.Mathlib.Omega.{arith}
 use native.Mathlib.Nat as NatL
 use lib.ListN.{length}
 use lib.IntN.{ℤ, pos, negsuc}
+use Rattle.laws.proofs.Lists.{in-range, range-has}
+use Rattle.laws.specs.Lists.{range}
 use Rattle.whole.specs.Numbers.{_⊕_, _⊗_, neg, 𝟘, 𝟙, NN, nn, PP, pp}
 use Rattle.whole.proofs.Sums.{⊕-𝟘, 𝟘-⊕, ⊗-𝟘, ⊕-neg, 𝟙-⊗}
 use Rattle.whole.proofs.Ring.{𝕧, _:+_, _:-_, solve}
@@ -18,7 +20,7 @@ use Rattle.whole.proofs.Ord.{pn, nn+, np+, pn+, nn≡, pp≡, z0, nspli
 use Rattle.whole.specs.Points.{Pt, Mem, ptAt, LexLe}
 use Rattle.whole.proofs.Turns.{pt≡, lin, At}
 use Rattle.whole.proofs.Edge.{Side, Edge, Ext, side-of, bound, more}
-use Rattle.whole.specs.Hull.{isNeg, isZero, select, range, lower, least, startOf, nextOf, hull}
+use Rattle.whole.specs.Hull.{isNeg, isZero, select, lower, least, startOf, nextOf, hull}
 use Rattle.whole.proofs.Select.{select-ok, Sel, flip-d}
 use Rattle.whole.proofs.Run.{Run, back-start}
 
@@ -129,22 +131,6 @@ mem-at [] i h = absurd (no-lt i h)
     no-lt i h = omega arith
 mem-at (p ∷ P) zero h = List·Memᴰ·head refl
 mem-at (p ∷ P) (suc i) h = List·Memᴰ·tail (mem-at P i (NatL.le-of-suc-le-suc h))
-
-in-range : (n k i : ℕ) → List·Memᴰ i (range n k) → (n ≤ i) × (i < n + k)
-in-range n zero i m = elim m [ ]
-in-range n (suc k) i (List·Memᴰ·head e) = (omega (arith, e), omega (arith, e))
-in-range n (suc k) i (List·Memᴰ·tail t) = let r = in-range (suc n) k i t in (omega (arith, r .0), omega (arith, r .1))
-
-range-has : (n k i : ℕ) → i < k → List·Memᴰ (n + i) (range n k)
-range-has n zero i h = absurd (no-lt i h)
-  where
-    no-lt : (i : ℕ) → i < 0 → ⊥
-    no-lt i h = omega arith
-range-has n (suc k) zero h = List·Memᴰ·head {x = n} (omega arith)
-range-has n (suc k) (suc i) h = List·Memᴰ·tail (Memᴰ·cast (eq n i) (range-has (suc n) k i (NatL.le-of-suc-le-suc h)))
-  where
-    eq : (n i : ℕ) → n + suc i ≡ suc n + i
-    eq n i = omega arith
 
 index-of : (P : List Pt) (p : Pt) → Mem p P → (i : ℕ) × (i < length P) × (ptAt P i ≡ p)
 unfolding ptAt

@@ -10,11 +10,12 @@ use native.Mathlib.Omega.{arith}
 use lib.ListN.{length}
 use lib.Dec.{ltb}
 use lib.IntN.{ℤ}
+use Rattle.laws.specs.Lists.{range}
 use Rattle.laws.proofs.Stores.{map-append}
 use Rattle.whole.specs.Numbers.{_⊕_, neg, 𝟘, 𝟙}
 use Rattle.whole.proofs.Sums.{neg-neg, ⊕-comm, 𝟘-⊕, ⊕-𝟘}
 use Rattle.whole.specs.Points.{Pt, cross, ptAt}
-use Rattle.whole.specs.Hull.{isNeg, range}
+use Rattle.whole.specs.Hull.{isNeg}
 use Rattle.whole.specs.Quad.{amax, pairs, dist, area, corners, farthest, quad}
 use Rattle.whole.specs.Walk.{keep, indexPairs, Ops, farthestWith, ends, quadWith, wholeOps, lessZ, with-i}
 

@@ -22,8 +22,9 @@ use mathlib.Core.List.{
 use Prim.Native.Nat.{ℕ, suc, _<_}
 use native.Mathlib.Omega.{arith}
 use lib.ListN.{length}
+use Rattle.laws.specs.Lists.{NoDup}
 use Rattle.whole.specs.Numbers.{neg, 𝟘, PP}
-use Rattle.whole.specs.Points.{Pt, cross, Mem, ptAt, Rot, NoDup, Fan, Clockwise}
+use Rattle.whole.specs.Points.{Pt, cross, Mem, ptAt, Rot, Fan, Clockwise}
 use Rattle.whole.specs.Hull.{walk, hull, startOf}
 use Rattle.whole.specs.IsHull.{OnRight, OnRightOfAll, OnOrInside, IsHull}
 use Rattle.whole.proofs.Sums.{𝟘-⊕, ⊕-neg}

@@ -10,11 +10,12 @@ use Prim.Native.Nat.{ℕ, suc, _<_}
 use native.Mathlib.Omega.{arith}
 use lib.ListN.{length}
 use lib.IntN.{ℤ}
+use Rattle.laws.specs.Lists.{NoDup}
 use Rattle.whole.specs.Numbers.{neg}
 use Rattle.whole.proofs.Sums.{neg-neg}
 use Rattle.whole.proofs.Ring.{Expr, 𝕧, _:+_, _:-_, _:*_, :n, solve}
 use Rattle.whole.proofs.Ord.{nn≡}
-use Rattle.whole.specs.Points.{Pt, cross, d2, Mem, Rot, ptAt, NoDup}
+use Rattle.whole.specs.Points.{Pt, cross, d2, Mem, Rot, ptAt}
 use Rattle.whole.specs.IsHull.{dot}
 use Rattle.whole.proofs.Turns.{X, Y, C, D, env, rot2, d2-0, d2-self}
 use Rattle.whole.proofs.Edge.{Side, Edge, Ext, ext-of-edge, d2-dot}

@@ -6,8 +6,9 @@
 use mathlib.Core.Path.{_≡_, refl, sym, ap, _∙_, subst}
 use mathlib.Core.Logic.{_⊎_, inl, inr}
 use mathlib.Core.List.{List, [], _∷_, _++_, append-assoc, append-nil, List·Memᴰ·head, List·Memᴰ·tail, Memᴰ·append-right, List·Memᴰ·append-cases}
+use Rattle.laws.specs.Lists.{NoDup}
 use Rattle.whole.specs.Numbers.{PP}
-use Rattle.whole.specs.Points.{Pt, cross, Mem, Rot, NoDup, Fan, Clockwise}
+use Rattle.whole.specs.Points.{Pt, cross, Mem, Rot, Fan, Clockwise}
 use Rattle.whole.specs.Hull.{hull, walk}
 use Rattle.whole.proofs.Ord.{pn, pp≡, p0}
 use Rattle.whole.proofs.Turns.{cyc}

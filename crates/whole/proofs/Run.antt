@@ -11,11 +11,12 @@ use Prim.Native.Nat.{ℕ, zero, suc, _+_, _≤_}
 use native.Mathlib.Omega.{arith}
 use lib.ListN.{length}
 use lib.IntN.{ℤ, pos, negsuc}
+use Rattle.laws.specs.Lists.{NoDup}
 use Rattle.whole.specs.Hull.{isZero, samePt, walk}
 use Rattle.whole.specs.Numbers.{_⊕_, neg, 𝟘, PP}
 use Rattle.whole.proofs.Sums.{⊕-neg}
 use Rattle.whole.proofs.Ord.{p0, pp≡, sub0}
-use Rattle.whole.specs.Points.{Pt, cross, Mem, NoDup}
+use Rattle.whole.specs.Points.{Pt, cross, Mem}
 use Rattle.whole.proofs.Turns.{pt≡, lin, cyc, cross-same, At}
 use Rattle.whole.proofs.Edge.{Edge, Ext, pt-dec, ext-of-edge, strict, fan}
 

@@ -9,8 +9,10 @@ use Prim.Native.Nat.{ℕ, zero, suc, _+_, _%_, _<_}
 use native.Mathlib.Omega.{arith}
 use native.Mathlib.Nat as NatL
 use lib.ListN.{length}
+use Rattle.laws.proofs.Lists.{in-range}
+use Rattle.laws.specs.Lists.{range}
 use Rattle.whole.specs.Points.{Pt, ptAt}
-use Rattle.whole.specs.Hull.{step, select, samePt, walk, range, least, startOf, nextOf, hull}
+use Rattle.whole.specs.Hull.{step, select, samePt, walk, least, startOf, nextOf, hull}
 use Rattle.whole.specs.Walk.{Tests, bestWith, lowestWith, nextWith, walkWith, hullWith, wholeTests}
 
 module _ (P : List Pt) where
@@ -80,13 +82,8 @@ module _ (t u : Tests) (n : ℕ) (some : 0 < n)
       (λ j k. h j (List·Memᴰ·tail k)) in
       (r .0 ∙ ap (λ (b : Bool). lowestWith u (elim b as (λ _. ℕ) [ true ↦ i | false ↦ m ]) is) (lows i m hi hm), r .1)
 
-  in-range : (m k i : ℕ) → List·Memᴰ i (range m k) → i < m + k
-  in-range m zero i h = elim h [ ]
-  in-range m (suc k) i (List·Memᴰ·head e) = omega (arith, e)
-  in-range m (suc k) i (List·Memᴰ·tail h) = let r = in-range (suc m) k i h in omega (arith, r)
-
   all-n : All (range 0 n)
-  all-n i h = omega (arith, in-range 0 n i h)
+  all-n i h = omega (arith, in-range 0 n i h .1)
 
   nextWith-cong : (c : ℕ) → c < n → (nextWith t n c ≡ nextWith u n c) × (nextWith t n c < n)
   unfolding nextWith

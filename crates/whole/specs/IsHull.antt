@@ -3,8 +3,9 @@
 use mathlib.Core.Path.{_≡_}
 use mathlib.Core.List.{List, [], _∷_, _++_}
 use lib.IntN.{ℤ}
+use Rattle.laws.specs.Lists.{NoDup}
 use Rattle.whole.specs.Numbers.{_⊕_, _⊗_, neg, 𝟘, NN}
-use Rattle.whole.specs.Points.{Pt, cross, Mem, NoDup, Clockwise, Starts}
+use Rattle.whole.specs.Points.{Pt, cross, Mem, Clockwise, Starts}
 use Rattle.whole.specs.Hull.{hull}
 
 -- The dot product of the ways from o to a and from o to b.

@@ -5,8 +5,9 @@ use mathlib.Core.List.{List, [], _∷_, map, _++_}
 use Prim.Native.Nat.{ℕ, zero, suc, _+_, _%_}
 use lib.Dec.{ltb}
 use lib.IntN.{ℤ}
+use Rattle.laws.specs.Lists.{range}
 use Rattle.whole.specs.Points.{Pt, ptAt, cross, d2}
-use Rattle.whole.specs.Hull.{better, samePt, range, lower, isNeg}
+use Rattle.whole.specs.Hull.{better, samePt, lower, isNeg}
 use Rattle.whole.specs.Numbers.{_⊕_, neg, 𝟘, 𝟙}
 use Rattle.whole.specs.Quad.{area}
 

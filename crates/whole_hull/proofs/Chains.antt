@@ -5,20 +5,19 @@
 --     chain-first, chain-push            the new point as the first vertex, as the last one
 --     stack-push                         the list of places after a store
 -- Assumes nothing.
-use mathlib.Core.Path.{_≡_, refl, sym, ap, ap₂, _∙_, subst}
+use mathlib.Core.Path.{_≡_, refl, sym, ap, subst}
 use mathlib.Core.Logic.{_⊎_, inl, inr}
 use mathlib.Core.List.{List, [], _∷_}
-use Prim.Native.Nat.{ℕ, zero, suc, _+_, _≤_, _<_}
+use Prim.Native.Nat.{ℕ, suc, _+_, _≤_, _<_}
 use native.Mathlib.Omega.{arith}
-use lib.ListN.{length, set}
-use lib.Seq.{getD-set-other, getD-set-same}
+use lib.ListN.{length}
 use Rattle.laws.proofs.Bools.{at-or-below, le-or-lt}
 use Rattle.whole.specs.Numbers.{_⊕_, neg, 𝟘, NN, PP}
 use Rattle.whole.specs.Points.{cross}
 use Rattle.whole.proofs.Ord.{pn, nn≡, p0, z0, nsplit}
 use Rattle.whole.proofs.Turns.{cross-o, cross-same}
 use Rattle.hull.specs.Points.{ptOf}
-use Rattle.whole_hull.specs.Inner.{Full, pt, Right, Links, Last, Chain, ChainReady, Steep, stackOf, PlacesWithin}
+use Rattle.whole_hull.specs.Inner.{Full, pt, Right, Links, Last, Chain, ChainReady, Steep, PlacesWithin}
 use Rattle.whole_hull.proofs.Turns.{nn-sub, pp-sub, under-near, under-far, behind, before}
 
 module _ (A : ℕ → ℕ) where
@@ -174,16 +173,3 @@ module _ (A : ℕ → ℕ) where
       where
         nope : (u : ℕ) (l : List ℕ) → u ∷ l ≡ [] → ⊥
         nope u l z = let n : suc (length l) ≡ 0 = ap length z in omega arith
-
--- ---- the list of places
-stack-set : (s : List ℕ) (n m x : ℕ) → n ≤ m → stackOf (set s m x) n ≡ stackOf s n
-unfolding stackOf
-stack-set s zero m x l = refl
-stack-set s (suc n) m x l =
-    ap₂ (λ (a : ℕ) (t : List ℕ). a ∷ t) (getD-set-other s m n x 0 (λ e. omega arith)) (stack-set s n m x (omega arith))
-
-pub stack-push : (s : List ℕ) (n x : ℕ) → n < length s → stackOf (set s n x) (n + 1) ≡ x ∷ stackOf s n
-unfolding stackOf
-stack-push s n x l =
-    let z : n + 1 ≡ suc n = omega arith in
-    ap (stackOf (set s n x)) z ∙ ap₂ (λ (a : ℕ) (t : List ℕ). a ∷ t) (getD-set-same s n x 0 l) (stack-set s n n x (omega arith))

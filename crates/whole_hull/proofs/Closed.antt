@@ -12,6 +12,7 @@ use lib.Dec.{ltb}
 use lib.ListN.{length, getD}
 use lib.IntN.{natAbs}
 use borrow.Author.Tests.{ltb-true, ltb-false}
+use Rattle.laws.specs.Lists.{stackOf}
 use Rattle.laws.specs.Plane.{valueAt}
 use Rattle.whole.proofs.Reordered.{lex-anti}
 use Rattle.laws.proofs.Bools.{le-or-lt}
@@ -25,7 +26,7 @@ use Rattle.hull.specs.Points.{ptOf, ptsOf, many}
 use Rattle.hull.proofs.Exact.{length-pts}
 use Rattle.doubled.specs.Points.{pairsOf, xAt, yAt, Bounded}
 use Rattle.doubled.proofs.Points.{length-pairs}
-use Rattle.whole_hull.specs.Inner.{Chain, stackOf, Tops, listUpTo, overVertex, underVertex, cornerIf, roundOf, orOne}
+use Rattle.whole_hull.specs.Inner.{Chain, Tops, listUpTo, overVertex, underVertex, cornerIf, roundOf, orOne}
 use Rattle.whole_hull.proofs.Ways.{Way, run-of-way, mem-index, edge-false}
 use Rattle.whole_hull.proofs.Rounds.{Around, around}
 use Rattle.whole_hull.proofs.Numbered.{All, links-full, rising, first-less, upTo-cons, all-append, all-upTo, lex-below, lex-left}

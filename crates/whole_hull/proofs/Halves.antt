@@ -16,6 +16,7 @@ use native.Mathlib.Omega.{arith}
 use lib.Dec.{ltb}
 use lib.ListN.{length, length-append}
 use lib.Seq.{sets}
+use Rattle.laws.specs.Lists.{stackOf}
 use Rattle.laws.specs.Plane.{valueAt}
 use Rattle.hull.proofs.Floats.{numbers-append, length-numbers}
 use Rattle.laws.specs.Lent.{Stored, laid}
@@ -27,7 +28,7 @@ use Rattle.doubled.specs.Outline.{hullWhole}
 use Rattle.doubled.proofs.Points.{length-pairs}
 use Rattle.doubled.proofs.Accepted.{fewer}
 use Rattle.doubled.proofs.Exact.{hull-pts, pts-inj}
-use Rattle.whole_hull.specs.Inner.{Full, Chain, stackOf, seen, Tops, listUpTo, vertex, overVertex, underVertex, cornerIf, halfRound, roundOf, orOne, ChainPlaces}
+use Rattle.whole_hull.specs.Inner.{Full, Chain, seen, Tops, listUpTo, vertex, overVertex, underVertex, cornerIf, halfRound, roundOf, orOne, ChainPlaces}
 use Rattle.whole_hull.proofs.Ways.{full-at}
 use Rattle.whole_hull.proofs.Numbered.{links-full}
 use Rattle.whole_hull.proofs.Closed.{round-hull}

@@ -11,6 +11,7 @@ use Prim.Native.Nat.{ℕ, zero, suc, _≤_, _<_}
 use native.Mathlib.Omega.{arith}
 use lib.ListN.{getD}
 use lib.IntN.{pos}
+use Rattle.laws.specs.Lists.{stackOf}
 use Rattle.laws.proofs.Bools.{le-or-lt}
 use Rattle.laws.proofs.Stores.{map-append}
 use Rattle.whole.specs.Numbers.{_⊕_, neg}
@@ -18,7 +19,7 @@ use Rattle.whole.specs.Points.{Pt, Mem, LexLe}
 use Rattle.whole.proofs.Sums.{⊕-neg}
 use Rattle.whole.proofs.Edge.{Edge}
 use Rattle.hull.specs.Points.{ptOf}
-use Rattle.whole_hull.specs.Inner.{Full, Right, Links, stackOf, listUpTo}
+use Rattle.whole_hull.specs.Inner.{Full, Right, Links, listUpTo}
 use Rattle.whole_hull.proofs.Turns.{nn-sub, pp-sub}
 use Rattle.whole_hull.proofs.Ways.{Way, way-snoc}
 

@@ -9,13 +9,14 @@ use native.Mathlib.Omega.{arith}
 use lib.Dec.{ltb}
 use lib.ListN.{getD}
 use borrow.Author.Tests.{ltb-true, ltb-false}
+use Rattle.laws.specs.Lists.{stackOf}
 use Rattle.laws.specs.Plane.{valueAt}
 use Rattle.laws.proofs.Stores.{map-append}
 use Rattle.whole.specs.Points.{Pt, Mem}
 use Rattle.whole.proofs.Edge.{Edge}
 use Rattle.hull.specs.Points.{ptOf, ptsOf, many}
 use Rattle.doubled.specs.Points.{pairsOf, xAt, yAt, Bounded}
-use Rattle.whole_hull.specs.Inner.{Full, pt, Links, Chain, stackOf, Tops, listUpTo, overVertex, underVertex, cornerIf, roundOf}
+use Rattle.whole_hull.specs.Inner.{Full, pt, Links, Chain, Tops, listUpTo, overVertex, underVertex, cornerIf, roundOf}
 use Rattle.whole_hull.proofs.Ways.{Way, way-append, way-one, edge-of, full-at, side-down, half, half-of, index-mem, edge-false, edge-true}
 use Rattle.whole_hull.proofs.Numbered.{links-full, links-at, links-first, upTo-map, way-up}
 

@@ -18,6 +18,8 @@ use lib.ListN.{length, getD, set, replicate, length-set, length-replicate, getD-
 use lib.Seq.{getD-set-other, getD-set-same}
 use lib.IntN.{ℤ, pos}
 use borrow.Author.Tests.{ltb-true, ltb-false, lt-ltb, le-ltb}
+use Rattle.laws.proofs.Lists.{stack-push}
+use Rattle.laws.specs.Lists.{stackOf}
 use Rattle.laws.specs.Plane.{valueAt}
 use Rattle.laws.specs.Lent.{Stored}
 use Rattle.laws.proofs.Bools.{at-or-below}
@@ -28,9 +30,9 @@ use Rattle.whole.proofs.Ord.{nn≡, pp≡}
 use Rattle.whole.proofs.Turns.{X, Y, C}
 use Rattle.hull.specs.Points.{ptOf, numbersOf}
 use Rattle.doubled.specs.Points.{xAt, yAt}
-use Rattle.whole_hull.specs.Inner.{Full, pt, Links, Chain, ChainReady, Steep, stackOf, sumL, sumR, seen, Tops, lowered}
+use Rattle.whole_hull.specs.Inner.{Full, pt, Links, Chain, ChainReady, Steep, sumL, sumR, seen, Tops, lowered}
 use Rattle.whole_hull.proofs.Turns.{nn-sub, pp-sub}
-use Rattle.whole_hull.proofs.Chains.{ready-pop, chain-skip, chain-first, chain-push, stack-push}
+use Rattle.whole_hull.proofs.Chains.{ready-pop, chain-skip, chain-first, chain-push}
 
 -- ---- the test
 cross-sum : (A : ℕ → ℕ) (u c w : ℕ) → cross (pt A u) (pt A c) (pt A w) ≡ pos (sumL A u c w) ⊕ neg (pos (sumR A u c w))

@@ -14,6 +14,7 @@ use Prim.Native.Nat.{ℕ, zero, suc, _+_, _-_, _*_, _≤_, _<_}
 use native.Mathlib.Omega.{arith}
 use lib.ListN.{getD}
 use lib.IntN.{ℤ, pos}
+use Rattle.laws.specs.Lists.{range}
 use Rattle.laws.specs.Plane.{valueAt}
 use Rattle.whole.specs.Numbers.{_⊕_, _⊗_, neg, 𝟘, NN, PP}
 use Rattle.whole.specs.Points.{Pt, cross, Mem}

@@ -59,11 +59,6 @@ Steep A e [] = Unit {0}
 Steep A e (x ∷ []) = Unit {0}
 Steep A e (x ∷ u ∷ l) = PP (cross (pt A u) (pt A x) (pt A e))
 
--- The first n numbers of a list, the last first.
-unfoldable pub stackOf : List ℕ → ℕ → List ℕ
-stackOf s zero = []
-stackOf s (suc n) = getD s n 0 ∷ stackOf s n
-
 -- A coordinate as it is, or counted from the other end.
 abbrev pub seen : Bool → ℕ → ℕ
 seen turned n = cond turned (8192 - n) n

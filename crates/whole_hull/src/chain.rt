@@ -5,8 +5,9 @@ ghost use mathlib.Core.Path.{_≡_};
 ghost use mathlib.Core.Bool.{true, false};
 ghost use Prim.Native.Nat.{_+_, _<_, _≤_};
 ghost use lib.ListN.{length};
+ghost use Rattle.laws.specs.Lists.{stackOf};
 ghost use Rattle.laws.specs.Plane.{valueAt};
-ghost use Rattle.whole_hull.specs.Inner.{Full, sumL, sumR, Chain, ChainReady, Steep, stackOf, PlacesWithin};
+ghost use Rattle.whole_hull.specs.Inner.{Full, sumL, sumR, Chain, ChainReady, Steep, PlacesWithin};
 
 // The least y at place x.
 fn y_of(a: &[u16], x: u32) -> u32

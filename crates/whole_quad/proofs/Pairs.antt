@@ -12,8 +12,8 @@ use Prim.Native.Nat.{ℕ, zero, suc, _+_, _-_, _≤_, _<_}
 use native.Mathlib.Omega.{arith}
 use lib.Dec.{ltb}
 use borrow.Author.Tests.{lt-ltb, le-ltb, ltb-true, ltb-false}
+use Rattle.laws.specs.Lists.{range}
 use Rattle.laws.proofs.Steps.{one-less, none-left}
-use Rattle.whole.specs.Hull.{range}
 use Rattle.whole.specs.Walk.{keep, indexPairs, with-i}
 use Rattle.whole_quad.specs.Inner.{kept1}
 

@@ -11,9 +11,10 @@ use lib.Dec.{ltb}
 use lib.ListN.{length, getD}
 use lib.IntN.{ℤ, pos}
 use borrow.Author.Tests.{lt-ltb, le-ltb}
+use Rattle.laws.specs.Lists.{range}
 use Rattle.whole.specs.Numbers.{_⊕_, neg, 𝟘, 𝟙}
 use Rattle.whole.specs.Points.{Pt, cross, d2, ptAt}
-use Rattle.whole.specs.Hull.{isNeg, range}
+use Rattle.whole.specs.Hull.{isNeg}
 use Rattle.whole.specs.Quad.{lace, area}
 use Rattle.whole.specs.Walk.{keep, indexPairs, farthestWith, ends, quadWith, wholeOps, lessZ}
 use Rattle.whole.proofs.Sums.{𝟘-⊕}

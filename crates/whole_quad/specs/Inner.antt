@@ -4,8 +4,8 @@ use mathlib.Core.Bool.{true, false}
 use mathlib.Core.List.{List, map}
 use Prim.Native.Nat.{ℕ, _+_, _-_, _*_}
 use lib.Dec.{ltb}
+use Rattle.laws.specs.Lists.{range}
 use Rattle.laws.specs.Gap.{gap}
-use Rattle.whole.specs.Hull.{range}
 use Rattle.whole.specs.Walk.{keep, with-i}
 use Rattle.hull.specs.Points.{many}
 use Rattle.doubled.specs.Points.{xAt, yAt}

@@ -12,7 +12,7 @@ ghost use mathlib.Core.List.{[], _∷_};
 ghost use Prim.Native.Nat.{_+_, _-_, _*_, _<_, _≤_};
 ghost use lib.Dec.{ltb};
 ghost use lib.ListN.{length};
-ghost use Rattle.whole.specs.Hull.{range};
+ghost use Rattle.laws.specs.Lists.{range};
 ghost use Rattle.whole.specs.Walk.{keep, indexPairs};
 ghost use Rattle.hull.specs.Points.{many};
 ghost use Rattle.doubled.specs.Points.{xAt, yAt, Bounded, pairsOf};

@@ -1,10 +1,9 @@
--- `finder::prepare::prepare` meets its contract: a refusal has touched nothing, and its number is not 4; else the picture door has done
--- all. Assumes nothing.
-use mathlib.Core.Path.{_≡_, sym, _∙_}
+-- `finder::prepare::prepare` meets its contract: a refusal has touched nothing, else the picture door has done all. Assumes nothing.
+use mathlib.Core.Path.{sym, _∙_}
 use lib.ListN.{length}
 use denote.Ref.{now}
 use borrow.Author.Needs.{needs}
-use Rattle.finder.proofs.Passing.{passed, not-four, refused-levels, refused-labels, refused-stack}
+use Rattle.finder.proofs.Passing.{passed, refused-levels, refused-labels, refused-stack}
 use Rattle.finder.proofs.Prepared.{prepared-refused, refused-number, prepared-given, ready}
 use Rattle.finder.proofs.prepare.prepare.Statement.{statement}
 use Rattle.finder.proofs.prepare.prepare.Tie as tie
@@ -18,21 +17,17 @@ refusal-requires c κs = search needs
 returns : tie.Need-returns
 returns c =
     let a = c .before .before .before .before .before .before .before .args in
-    let l = a .l in
     let k = c .before .before .check in
     let r = c .refusal in
     let some = c .before .if1 .taken in
-    let four : k .result ≡ 4 → ⊥ =
-    λ e. not-four (a .w) (a .h) (length (now (a .gray))) (length (now (a .levels))) (length (now (a .labels))) (length (now (a .stack)))
-    (l .points) (l .straight) (l .cand) (l .buf) (a .most) (sym (k .ensures) ∙ e) in
     let m = refused-number (k .result) (r .result) (r .ensures) in (
       prepared-refused (k .result) _ _ (r .result) (r .ensures) (k .ensures) some,
       (
-        refused-levels (now (a .gray)) (now (a .levels)) (a .w) (a .h) (k .result) some four _ m,
+        refused-levels (now (a .gray)) (now (a .levels)) (a .w) (a .h) (k .result) some _ m,
         (
-          refused-labels (now (a .gray)) (now (a .labels)) (a .w) (a .h) (k .result) some four _ m,
+          refused-labels (now (a .gray)) (now (a .labels)) (a .w) (a .h) (k .result) some _ m,
           (
-            refused-stack (now (a .gray)) (now (a .stack)) (a .w) (a .h) (k .result) some four _ m,
+            refused-stack (now (a .gray)) (now (a .stack)) (a .w) (a .h) (k .result) some _ m,
             λ z. absurd (some (sym m ∙ z)),
           ),
         ),

@@ -5,8 +5,8 @@ use Prim.Native.Nat.{_-_, _≤_, _<_}
 use native.Mathlib.Omega.{arith}
 use denote.Ref.{now}
 use borrow.Author.Needs.{needs}
+use Rattle.laws.specs.Lists.{range}
 use Rattle.ieee.specs.Constants.{0f}
-use Rattle.whole.specs.Hull.{range}
 use Rattle.whole.specs.Walk.{keep}
 use Rattle.hull.specs.Hull.{crossAt}
 use Rattle.hull.specs.Points.{many}

@@ -7,7 +7,7 @@ use native.Mathlib.Omega.{arith}
 use lib.Ieee.{lt}
 use denote.Ref.{now}
 use borrow.Author.Needs.{needs}
-use Rattle.whole.specs.Hull.{range}
+use Rattle.laws.specs.Lists.{range}
 use Rattle.whole.specs.Walk.{keep, with-i}
 use Rattle.hull.specs.Points.{many}
 use Rattle.hull.specs.Inner.{apart}

@@ -6,7 +6,7 @@ use native.Mathlib.Nat.{mod-lt}
 use native.Mathlib.Omega.{arith}
 use denote.Ref.{now}
 use borrow.Author.Needs.{needs}
-use Rattle.whole.specs.Hull.{range}
+use Rattle.laws.specs.Lists.{range}
 use Rattle.whole.specs.Walk.{bestWith, nextWith}
 use Rattle.hull.specs.Hull.{hullTests}
 use Rattle.hull.specs.Points.{many}

@@ -5,7 +5,7 @@ use Prim.Native.Nat.{_-_, _≤_, _<_}
 use native.Mathlib.Omega.{arith}
 use denote.Ref.{now}
 use borrow.Author.Needs.{needs}
-use Rattle.whole.specs.Hull.{range}
+use Rattle.laws.specs.Lists.{range}
 use Rattle.whole.specs.Walk.{lowestWith}
 use Rattle.hull.specs.Hull.{hullTests}
 use Rattle.hull.specs.Points.{many}

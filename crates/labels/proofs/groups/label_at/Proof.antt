@@ -1,8 +1,7 @@
--- By the cell: no mark, its group filled, or the stack full. Assumes nothing.
-use mathlib.Core.Path.{refl}
+-- By the cell: no mark, or its group is filled. Assumes nothing.
+use native.Mathlib.Omega.{arith}
 use borrow.Author.Needs.{needs}
-use Rattle.labels.proofs.VisitLaws.{fills-no, fills-yes}
-use Rattle.labels.specs.Inner.{filled, skipped, stopped}
+use Rattle.labels.proofs.Loops.{group-skip, group-fill}
 use Rattle.labels.proofs.groups.label_at.Statement.{statement}
 use Rattle.labels.proofs.groups.label_at.Tie as tie
 
@@ -13,7 +12,9 @@ slice-read-if1 : tie.Need-slice-read-if1
 slice-read-if1 c = search needs
 
 returns : tie.Need-returns
-returns c = skipped (c .if1 .taken) refl refl
+returns c =
+    let a = c .before .before .before .before .args in
+    (omega arith, group-skip (a .w) (a .h) (a .s) (c .if1 .taken))
 
 add-flood : tie.Need-add-flood
 add-flood c = search needs
@@ -21,8 +22,8 @@ add-flood c = search needs
 flood-requires : tie.Need-flood-requires
 flood-requires c κs = search needs
 
-add-t16 : tie.Need-add-t16
-add-t16 c = search needs
+add-result : tie.Need-add-result
+add-result c = search needs
 
 same-length : tie.Need-same-length
 same-length c = search needs
@@ -31,17 +32,11 @@ same-length-2 : tie.Need-same-length-2
 same-length-2 c = search needs
 
 returns-2 : tie.Need-returns-2
-returns-2 c = filled (c .before .before .before .before .before .before .before .before .if1 .left)
-    (fills-yes (c .before .before .before .before .before .flood .ensures) (c .if2 .taken))
-
-same-length-3 : tie.Need-same-length-3
-same-length-3 c = search needs
-
-same-length-4 : tie.Need-same-length-4
-same-length-4 c = search needs
-
-returns-3 : tie.Need-returns-3
-returns-3 c = stopped (fills-no (c .before .before .before .before .before .flood .ensures) (c .if2 .left))
+returns-2 c =
+    let q = c .before .before .before .before in
+    let u = q .before .before .before in
+    let a = u .before .before .before .before .args in
+    (omega arith, group-fill (a .w) (a .h) (a .s) (u .if1 .left) (q .flood .ensures))
 
 pub label-at-spec : {M : Type 1} → statement M
 label-at-spec =
@@ -52,10 +47,7 @@ label-at-spec =
     returns
     add-flood
     flood-requires
-    add-t16
+    add-result
     same-length
     same-length-2
-    returns-2
-    same-length-3
-    same-length-4
-    returns-3)
+    returns-2)

@@ -2,8 +2,7 @@
 use Prim.Native.Nat.{_-_}
 use native.Mathlib.Omega.{arith}
 use borrow.Author.Needs.{needs}
-use Rattle.labels.proofs.VisitLaws.{Row, or-at, or-full, row-begin, row-turn, rowed-end, run-safe}
-use Rattle.labels.specs.Inner.{InRow, at-or, full-or}
+use Rattle.labels.proofs.Loops.{Row, row-begin, row-turn, row-end}
 use Rattle.labels.proofs.groups.visit_row.Statement.{statement}
 use Rattle.labels.proofs.groups.visit_row.Tie as tie
 
@@ -14,36 +13,12 @@ abbrev μ-loop : tie.MeasureT-loop
 μ-loop labels₀ stack₀ depth a b v k₀ j₀ labels stack k j = b - j
 
 loop-holds : tie.Need-loop-holds Inv-loop μ-loop
-loop-holds c = row-begin _ _ _ _ _ _
+loop-holds c = let e = c .before .before in row-begin (e .args .a) (omega (arith, e .pre)) (e .pre .0)
 
 visit-requires : tie.Need-visit-requires Inv-loop μ-loop
 visit-requires c κs =
-    let s = c .before .before .before .before .before .before in
     let i = c .before .before .before .loop .inv in
-    (run-safe (s .args .v) (λ e. omega arith) (InRow (s .args .a) (s .args .b)) (i .ran) (s .pre .0), omega arith)
-
-enum-known-next : tie.Need-enum-known-next Inv-loop μ-loop
-enum-known-next c = search needs
-
-enum-told : tie.Need-enum-told Inv-loop μ-loop
-enum-told c = search needs
-
-same-length : tie.Need-same-length Inv-loop μ-loop
-same-length c = search needs
-
-same-length-2 : tie.Need-same-length-2 Inv-loop μ-loop
-same-length-2 c = search needs
-
-returns : tie.Need-returns Inv-loop μ-loop
-returns c =
-    let u = c .before .before .before .before .before .before in
-    let q = u .before .before .before .before .loop .inv in
-    full-or (omega (
-      arith,
-      or-full (u .visit .ensures) (c .enum-told .given .1),
-      q .same,
-      q .same-stack,
-    ))
+    (i .done .safe, omega (arith, i .done .size))
 
 add-j : tie.Need-add-j Inv-loop μ-loop
 add-j c = search needs
@@ -53,20 +28,19 @@ loop-less c = search needs
 
 loop-again : tie.Need-loop-again Inv-loop μ-loop
 loop-again c =
-    let u = c .before .before .before .before .before .before .before in
-    let e = u .before .before .before .before .before .before .before in
-    let q = u .before .before .before .before .loop in
-    row-turn (λ p. omega (arith, e .pre)) (q .inv) (omega arith) (omega (arith, q .inv .same, e .pre))
-    (or-at (u .visit .ensures) (c .before .next .given .1))
+    let q = c .before .before .before .before in
+    let u = q .before .before .before .before in
+    row-turn (omega (arith, u .before .before .before .pre)) (u .loop .inv) (omega arith) (q .visit .ensures) (q .visit .kept .0)
+    (q .visit .kept .1 .0)
 
-same-length-3 : tie.Need-same-length-3 Inv-loop μ-loop
-same-length-3 c = search needs
+same-length : tie.Need-same-length Inv-loop μ-loop
+same-length c = search needs
 
-same-length-4 : tie.Need-same-length-4 Inv-loop μ-loop
-same-length-4 c = search needs
+same-length-2 : tie.Need-same-length-2 Inv-loop μ-loop
+same-length-2 c = search needs
 
-returns-2 : tie.Need-returns-2 Inv-loop μ-loop
-returns-2 c = at-or (rowed-end (omega arith) (c .before .loop .inv))
+returns : tie.Need-returns Inv-loop μ-loop
+returns c = row-end (omega arith) (c .before .loop .inv)
 
 pub visit-row-spec : {M : Type 1} → statement M
 visit-row-spec =
@@ -76,14 +50,9 @@ visit-row-spec =
     μ-loop
     loop-holds
     visit-requires
-    enum-known-next
-    enum-told
-    same-length
-    same-length-2
-    returns
     add-j
     loop-less
     loop-again
-    same-length-3
-    same-length-4
-    returns-2)
+    same-length
+    same-length-2
+    returns)

@@ -6,8 +6,9 @@ use native.Mathlib.Omega.{arith}
 use lib.ListN.{length}
 use denote.Ref.{now}
 use borrow.Author.Needs.{needs}
+use Rattle.laws.specs.Lists.{stackOf}
 use Rattle.laws.specs.Plane.{valueAt}
-use Rattle.whole_hull.specs.Inner.{Chain, stackOf}
+use Rattle.whole_hull.specs.Inner.{Chain}
 use Rattle.whole_hull.proofs.Chains.{chain-begin, chain-end}
 use Rattle.whole_hull.proofs.chain.chain.Statement.{statement}
 use Rattle.whole_hull.proofs.chain.chain.Tie as tie

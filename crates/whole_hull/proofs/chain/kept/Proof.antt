@@ -5,8 +5,9 @@ use native.Mathlib.Omega.{arith}
 use lib.ListN.{length}
 use borrow.Author.Needs.{needs, fits-under}
 use denote.Ref.{now}
+use Rattle.laws.specs.Lists.{stackOf}
 use Rattle.laws.specs.Plane.{valueAt}
-use Rattle.whole_hull.specs.Inner.{ChainReady, stackOf}
+use Rattle.whole_hull.specs.Inner.{ChainReady}
 use Rattle.whole_hull.proofs.Stores.{kept-full, kept-pop, kept-stop, kept-few}
 use Rattle.whole_hull.proofs.chain.kept.Statement.{statement}
 use Rattle.whole_hull.proofs.chain.kept.Tie as tie

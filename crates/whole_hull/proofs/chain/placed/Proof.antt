@@ -2,8 +2,9 @@
 use native.Mathlib.Omega.{arith}
 use denote.Ref.{now}
 use borrow.Author.Needs.{needs}
+use Rattle.laws.specs.Lists.{stackOf}
 use Rattle.laws.specs.Plane.{valueAt}
-use Rattle.whole_hull.specs.Inner.{Full, stackOf}
+use Rattle.whole_hull.specs.Inner.{Full}
 use Rattle.whole_hull.proofs.Stores.{placed-skip, placed-push}
 use Rattle.whole_hull.proofs.Chains.{ready-begin}
 use Rattle.whole_hull.proofs.chain.placed.Statement.{statement}

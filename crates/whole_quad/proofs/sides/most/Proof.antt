@@ -6,7 +6,7 @@ use native.Mathlib.Omega.{arith}
 use lib.Dec.{ltb}
 use denote.Ref.{now}
 use borrow.Author.Needs.{needs}
-use Rattle.whole.specs.Hull.{range}
+use Rattle.laws.specs.Lists.{range}
 use Rattle.whole.specs.Walk.{keep}
 use Rattle.hull.specs.Points.{many}
 use Rattle.whole_quad.specs.Inner.{sideAt, mostOf}

@@ -4,9 +4,9 @@ use Prim.Native.Nat.{_-_}
 use native.Mathlib.Omega.{arith}
 use lib.ListN.{length, length-set}
 use borrow.Author.Needs.{needs}
-use Rattle.labels.proofs.Cleared.{Cleared, cleared-end, cleared-turn}
-use Rattle.labels.proofs.clearing.clear.Statement.{statement}
-use Rattle.labels.proofs.clearing.clear.Tie as tie
+use Rattle.regions.proofs.Cleared.{Cleared, cleared-end, cleared-turn}
+use Rattle.regions.proofs.clearing.clear.Statement.{statement}
+use Rattle.regions.proofs.clearing.clear.Tie as tie
 
 abbrev Inv-loop : tie.InvT-loop
 Inv-loop list₀ i₀ list i = Cleared list₀ list i
