@@ -17,7 +17,7 @@ use Rattle.laws.proofs.Bools.{at-or-below, clash, which}
 use Rattle.laws.proofs.Counts.{count-most, count-no, count-yes}
 use Rattle.laws.proofs.Writes.{at-set}
 use Rattle.laws.specs.Count.{count}
-use Rattle.labels.proofs.Graph.{first-ink, first-of, label-none, label-same, labelled, leader-le, leader-linked, linked-right}
+use Rattle.labels.proofs.Graph.{first-ink, first-of, label-none, label-same, label-first, leader-le, leader-linked, linked-right}
 use Rattle.labels.specs.Labels.{NearGrid, Linked, first?, here, label, leader, near, step}
 
 -- The labels given so far are right and at most the last; what is near a cell with a label has one too, unless that cell is `o` or on the
@@ -194,7 +194,7 @@ module _ (ink : ℕ → Bool) (near : ℕ → ℕ → Bool) (n : ℕ) (g : NearG
         new : first? ink near n s ≡ true → ⊥
         new p =
             let i = first-ink ink near n g s p in
-            omega (arith, o .fill .right s i m .1, labelled ink near n g .counted s p, o .counted)
+            omega (arith, o .fill .right s i m .1, label-first ink near n g s p, o .counted)
 
     module _ (s t : ℕ) (σ : State) (small : σ .given + 1 < MARK) (enough : n ≤ t) (o : Outer ink near n s σ)
         (m : getD (σ .held) s 0 ≡ MARK) where
@@ -225,7 +225,7 @@ module _ (ink : ℕ → Bool) (near : ℕ → ℕ → Bool) (n : ℕ) (g : NearG
       new = first-of ink near n g s i-s leads
 
       label-s : label ink near n s ≡ σ .given + 1
-      label-s = omega (arith, labelled ink near n g .counted s new, o .counted)
+      label-s = omega (arith, label-first ink near n g s new, o .counted)
 
       room : length (τ .stack) + marks (τ .held) ≤ t
       room =

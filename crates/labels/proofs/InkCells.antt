@@ -1,6 +1,6 @@
 -- Laws of ink cells: pixels below a threshold counted row by row (row-step, box-step), the count of a cell (cell-ink-is), and marks as ink
 -- cells (marks-are). Assumes nothing.
-use mathlib.Core.Bool.{Bool, _&&_, cond, false, true}
+use mathlib.Core.Bool.{_&&_, cond, true}
 use mathlib.Core.List.{List}
 use mathlib.Core.Path.{_∙_, _≡_, ap, refl}
 use Prim.Native.Nat.{_%_, _*_, _+_, _-_, _/_, _<_, _≤_, ℕ}
@@ -13,7 +13,7 @@ use lib.Seq.{getD-take, length-take-le}
 use borrow.Author.Tests.{lt-ltb}
 use Rattle.labels.specs.Inner.{CellInside, Levelled, below, cellMarkAt, rowBelow}
 use Rattle.labels.specs.Labelling.{MARK, markedCells}
-use Rattle.laws.proofs.Folds.{fold-ext, fold-suc, getD-written, is-tab}
+use Rattle.laws.proofs.Folds.{bit-le, fold-ext, fold-suc, getD-written, is-tab}
 use Rattle.laws.proofs.Planes.{box-ext, box-more, getD-part, part}
 use Rattle.laws.specs.Fold.{bit, fold, sumTo}
 use Rattle.laws.specs.Plane.{Plane, box, boxRow, drawn, plane, rowwise}
@@ -22,10 +22,6 @@ use Rattle.levels.specs.Level.{inkOf, cells, inkAt, level}
 use Rattle.picture_checks.specs.Picture.{Picture}
 use Rattle.labels.proofs.Near.{grid}
 use Rattle.labels.specs.Cells.{cells8, cellsOf, inkCell, inkPixels, span8}
-
-bit-le : (b : Bool) → bit b ≤ 1
-bit-le true = omega arith
-bit-le false = omega arith
 
 -- ---- a row
 pub row-none : (row : List ℕ) (t : ℕ) → sumTo 0 (rowBelow row t) ≡ 0

@@ -1,5 +1,5 @@
 -- Ink cells and groups of a moved picture. `p′` is any plane that has the moved pixels within the moved sides.
---     cells8-16, wide-cells, high-cells, cell-ink-of, ink-inside, grid-of, picture-carry, groups-of
+--     wide-cells, high-cells, cell-ink-of, ink-inside, grid-of, picture-carry, groups-of
 -- Assumes nothing.
 use mathlib.Core.Path.{_≡_, refl, sym, ap, ap₂, _∙_}
 use mathlib.Core.Logic.{_↔_}
@@ -50,9 +50,6 @@ cells-box (turned m) A B q x y lx ly =
 
     in8 : (h y : ℕ) → y < h → 8 * (h - 1 - y) + 8 ≤ 8 * h
     in8 h y l = omega arith
-
-pub cells8-16 : (W : ℕ) → cells8 (16 * W) ≡ 2 * W
-cells8-16 W = omega arith
 
 cells8-8 : (A : ℕ) → cells8 (8 * A) ≡ A
 cells8-8 A = omega arith
