@@ -4,7 +4,7 @@ use mathlib.Core.Bool.{_&&_, cond, true}
 use mathlib.Core.List.{List}
 use mathlib.Core.Path.{_∙_, _≡_, ap, refl}
 use Prim.Native.Nat.{_%_, _*_, _+_, _-_, _/_, _<_, _≤_, ℕ}
-use native.Mathlib.Nat.{add-assoc, mul-comm, mul-le-mul-right, mul-one}
+use native.Mathlib.Nat.{add-assoc, mul-comm, mul-le-mul, mul-le-mul-right, mul-one}
 use native.Mathlib.Omega.{arith}
 use lib.Dec.{leb, ltb}
 use lib.Ieee.{low}
@@ -14,7 +14,7 @@ use borrow.Author.Tests.{lt-ltb}
 use Rattle.labels.specs.Inner.{CellInside, Levelled, below, cellMarkAt, rowBelow}
 use Rattle.labels.specs.Labelling.{MARK, markedCells}
 use Rattle.laws.proofs.Folds.{bit-le, fold-ext, fold-suc, getD-written, is-tab}
-use Rattle.laws.proofs.Planes.{box-ext, box-more, getD-part, part}
+use Rattle.laws.proofs.Planes.{box-ext, box-more, getD-part, part, place-lt, row-end}
 use Rattle.laws.specs.Fold.{bit, fold, sumTo}
 use Rattle.laws.specs.Plane.{Plane, box, boxRow, drawn, plane, rowwise}
 use Rattle.levels.proofs.Hist.{sum-le}
@@ -22,6 +22,10 @@ use Rattle.levels.specs.Level.{inkOf, cells, inkAt, level}
 use Rattle.picture_checks.specs.Picture.{Picture}
 use Rattle.labels.proofs.Near.{grid}
 use Rattle.labels.specs.Cells.{cells8, cellsOf, inkCell, inkPixels, span8}
+
+-- ---- how many cells there are
+pub cells-few : {w h : ℕ} → w ≤ 4096 → h ≤ 4096 → cellsOf w h ≤ 262144
+cells-few {w} {h} wide high = mul-le-mul {n₁ = cells8 h} {m₁ = cells8 w} {n₂ = 512} {m₂ = 512} (omega arith) (omega arith)
 
 -- ---- a row
 pub row-none : (row : List ℕ) (t : ℕ) → sumTo 0 (rowBelow row t) ≡ 0
@@ -62,7 +66,17 @@ box-le p x0 y0 lx ly t =
     sum-le lx ly (λ j. fold _+_ 0 lx (λ i. bit (ltb (p (x0 + i) (y0 + j)) t)))
     (λ j. rw (mul-one lx) at (sum-le 1 lx (λ i. bit (ltb (p (x0 + i) (y0 + j)) t)) (λ i. bit-le (ltb (p (x0 + i) (y0 + j)) t))))
 
+-- a row of the part lies in the picture
+pub row-inside : {s : List ℕ} {w x0 y0 lx ly j : ℕ} → CellInside s w x0 y0 lx ly → j < ly → (y0 + j) * w + x0 + lx ≤ length s
+row-inside {w = w} {y0 = y0} {ly = ly} {j = j} p l = omega (arith, p .right, p .bottom, row-end (y0 + j) (y0 + ly) w (omega arith))
+
 -- ---- a cell
+-- the level cell in which a cell lies
+pub level-place : {s grid : List ℕ} {w h cw : ℕ} (cx cy : ℕ) → Levelled s w h grid → 8 * cx < w → 8 * cy < h → cw ≡ cells w
+    → cy / 2 * cw + cx / 2 < length grid
+level-place {w = w} {h} cx cy p lw lh e =
+    rw e (omega (arith, place-lt (cx / 2) (cy / 2) (cells w) (cells h) (omega arith) (omega arith), p .room))
+
 half : (c i : ℕ) → i < 8 → (8 * c + i) / 16 ≡ c / 2
 half c i l = omega arith
 

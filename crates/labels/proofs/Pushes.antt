@@ -8,7 +8,6 @@ use mathlib.Core.List.{List, [], _∷_, List·Memᴰ, List·Memᴰ·head, List·
 use mathlib.Core.Path.{_∙_, _≡_, ap, refl, sym}
 use Prim.Native.Nat.{_+_, _<_, _≤_, suc, zero, ℕ}
 use native.Mathlib.Decide.{decLt}
-use native.Mathlib.Nat.{mul-le-mul}
 use native.Mathlib.Omega.{arith}
 use lib.ListN.{List·getD-eq-default, getD, length}
 use lib.Seq.{getD-set-same}
@@ -22,6 +21,7 @@ use Rattle.labels.specs.Labelling.{MARK, State, push, afterVisit, afterV
 use Rattle.labels.specs.Inner.{marks, Inked, CellGrid}
 use Rattle.labels.specs.Claims.{EachOnce, Pushes}
 use Rattle.labels.proofs.States.{Kept, marks-le, marks-set, marked-in, visit-open, visit-by, group-by, visit-kept, emptied-kept}
+use Rattle.labels.proofs.InkCells.{cells-few}
 use Rattle.labels.proofs.Labellings.{labels-are, labels-many}
 use Rattle.labels.proofs.Pictures.{ink-inside}
 
@@ -112,7 +112,7 @@ pub picture-grid : (p : Plane) (w h : ℕ) → 1 ≤ w → w ≤ 4096 → h ≤ 
 unfolding markedCells
 picture-grid p w h low wide high = record {
   size = length-tab (cellsOf w h) (λ c. cond (inkCell p w h c) MARK 0);
-  few = omega (arith, mul-le-mul {n₁ = cells8 h} {m₁ = cells8 w} {n₂ = 512} {m₂ = 512} (omega arith) (omega arith));
+  few = cells-few wide high;
   some = omega arith;
 }
 
