@@ -1,21 +1,26 @@
--- Laws of ink cells: pixels below a threshold counted row by row (row-step, box-step), the count of a cell (cell-ink-is), and marks as ink
--- cells (marks-are). Assumes nothing.
-use mathlib.Core.Bool.{_&&_, cond, true}
+-- Laws of ink cells.
+--     how many cells there are: cells-few
+--     pixels below a threshold, row by row: row-none, row-step, row-le, box-step, box-le, row-inside
+--     the count of a cell: level-place, inside-cell, cell-ink-is
+--     lists of cells: cells-drawn, tab-all, marks-are
+-- Assumes nothing.
+use mathlib.Core.Bool.{cond}
 use mathlib.Core.List.{List}
-use mathlib.Core.Path.{_∙_, _≡_, ap, refl}
-use Prim.Native.Nat.{_%_, _*_, _+_, _-_, _/_, _<_, _≤_, ℕ}
+use mathlib.Core.Path.{_∙_, _≡_, ap, refl, sym}
+use Prim.Native.Nat.{_*_, _+_, _-_, _/_, _<_, _≤_, ℕ}
+use native.Mathlib.Decide.{decLt}
 use native.Mathlib.Nat.{add-assoc, mul-comm, mul-le-mul, mul-le-mul-right, mul-one}
 use native.Mathlib.Omega.{arith}
-use lib.Dec.{leb, ltb}
+use lib.Dec.{ltb}
 use lib.Ieee.{low}
-use lib.ListN.{drop, getD, length, length-drop, length-take, take}
-use lib.Seq.{getD-take, length-take-le}
+use lib.ListN.{List·getD-eq-default, drop, getD, length, length-drop, length-take, take}
+use lib.Seq.{take-at}
 use borrow.Author.Tests.{lt-ltb}
 use Rattle.labels.specs.Inner.{CellInside, Levelled, below, cellMarkAt, rowBelow}
 use Rattle.labels.specs.Labelling.{MARK, markedCells}
-use Rattle.laws.proofs.Folds.{bit-le, fold-ext, fold-suc, getD-written, is-tab}
+use Rattle.laws.proofs.Folds.{bit-le, fold-ext, fold-suc, getD-tab, length-tab, tab-ext}
 use Rattle.laws.proofs.Planes.{box-ext, box-more, getD-part, part, place-lt, row-end}
-use Rattle.laws.specs.Fold.{bit, fold, sumTo}
+use Rattle.laws.specs.Fold.{bit, fold, sumTo, tab}
 use Rattle.laws.specs.Plane.{Plane, box, boxRow, drawn, plane, rowwise}
 use Rattle.levels.proofs.Hist.{sum-le}
 use Rattle.levels.specs.Level.{inkOf, cells, inkAt, level}
@@ -102,20 +107,26 @@ cell-ink-is {s} {grid} {w} {h} held cx cy {t} lw lh et ex ey =
     (span8 h cy)
     (λ i j li lj. rw (half cx i (omega arith), half cy j (omega arith), level-t)))
 
--- ---- marks
+-- ---- lists of cells
+-- the cells of a drawn list in row order
+pub cells-drawn : (w h : ℕ) (g : Plane) (f : ℕ → ℕ) (old : List ℕ) {l : List ℕ} → l ≡ drawn w h g old
+    → ((c : ℕ) → c < h * w → rowwise w g c ≡ f c) → take (h * w) l ≡ tab (h * w) f
+cells-drawn w h g f old e same =
+    ap (take (h * w)) (rw (mul-comm w h) at e)
+    ∙ take-at (tab (h * w) (rowwise w g)) (drop (h * w) old) (h * w) (length-tab (h * w) (rowwise w g))
+    ∙ tab-ext (h * w) (rowwise w g) f same
+
+-- with nothing past the cells, each of them
+pub tab-all : (n : ℕ) (f : ℕ → ℕ) → ((c : ℕ) → (c < n → ⊥) → f c ≡ 0) → (c : ℕ) → getD (tab n f) c 0 ≡ f c
+tab-all n f none c = go (decLt c n)
+  where
+    go : Dec (c < n) → getD (tab n f) c 0 ≡ f c
+    go (yes b) = getD-tab n f c 0 b
+    go (no b) = List·getD-eq-default (tab n f) 0 (rw (length-tab n f) (omega arith)) ∙ sym (none c b)
+
 -- the marks that the code makes are those of the picture's cells
-pub marks-are : (p : Plane) (w h : ℕ) (l old : List ℕ) → cellsOf w h ≤ length l → l ≡ drawn (cells8 w) (cells8 h) (cellMarkAt p w h) old
+pub marks-are : (p : Plane) (w h : ℕ) (old : List ℕ) {l : List ℕ} → l ≡ drawn (cells8 w) (cells8 h) (cellMarkAt p w h) old
     → take (cellsOf w h) l ≡ markedCells p w h
 unfolding markedCells inkCell cellMarkAt
-marks-are p w h l old room e =
-    is-tab (cellsOf w h) (λ c. cond (inkCell p w h c) MARK 0) (take (cellsOf w h) l) (length-take-le (cellsOf w h) l room) mark
-  where
-    mark : (c : ℕ) → c < cellsOf w h
-        → getD (take (cellsOf w h) l) c 0 ≡ cond (ltb c (cellsOf w h) && leb 4 (inkPixels p w h (c % cells8 w) (c / cells8 w))) MARK 0
-    mark c b =
-        let b′ : c < cells8 w * cells8 h = rw (mul-comm (cells8 h) (cells8 w)) at b in
-        let t : ltb c (cellsOf w h) ≡ true = lt-ltb c (cellsOf w h) b in
-        getD-take (cellsOf w h) l c 0 b
-        ∙ ap (λ (k : List ℕ). getD k c 0) e
-        ∙ getD-written (cells8 w * cells8 h) (rowwise (cells8 w) (cellMarkAt p w h)) old c 0 b′
-        ∙ rw t
+marks-are p w h old e =
+    cells-drawn (cells8 w) (cells8 h) (cellMarkAt p w h) (λ c. cond (inkCell p w h c) MARK 0) old e (λ c b. rw (lt-ltb c (cellsOf w h) b))

@@ -3,25 +3,23 @@
 --     the labelling is a way: groups-reached
 --     a picture: picture-grid, marked-inked, picture-pushes
 -- Assumes nothing.
-use mathlib.Core.Bool.{cond, false}
+use mathlib.Core.Bool.{cond}
 use mathlib.Core.List.{List, [], _∷_, List·Memᴰ, List·Memᴰ·head, List·Memᴰ·tail}
 use mathlib.Core.Path.{_∙_, _≡_, ap, refl, sym}
 use Prim.Native.Nat.{_+_, _<_, _≤_, suc, zero, ℕ}
-use native.Mathlib.Decide.{decLt}
 use native.Mathlib.Omega.{arith}
-use lib.ListN.{List·getD-eq-default, getD, length}
+use lib.ListN.{getD, length}
 use lib.Seq.{getD-set-same}
-use Rattle.laws.specs.Fold.{tab}
 use Rattle.laws.specs.Lists.{NoDup}
 use Rattle.laws.proofs.Bools.{falsely}
-use Rattle.laws.proofs.Folds.{getD-tab, length-tab}
+use Rattle.laws.proofs.Folds.{length-tab}
 use Rattle.laws.specs.Plane.{Plane}
 use Rattle.labels.specs.Cells.{cells8, cellsOf, inkCell, cellLabel, groupsOf}
 use Rattle.labels.specs.Labelling.{MARK, State, push, afterVisit, afterVisits, afterTop, emptied, next, afterGroup, afterGroups, start, labelling, window, markedCells, Reached, begun, labelled, visited, taken}
 use Rattle.labels.specs.Inner.{marks, Inked, CellGrid}
 use Rattle.labels.specs.Claims.{EachOnce, Pushes}
 use Rattle.labels.proofs.States.{Kept, marks-le, marks-set, marked-in, visit-open, visit-by, group-by, visit-kept, emptied-kept}
-use Rattle.labels.proofs.InkCells.{cells-few}
+use Rattle.labels.proofs.InkCells.{cells-few, tab-all}
 use Rattle.labels.proofs.Labellings.{labels-are, labels-many}
 use Rattle.labels.proofs.Pictures.{ink-inside}
 
@@ -118,15 +116,8 @@ picture-grid p w h low wide high = record {
 
 pub marked-inked : (p : Plane) (w h : ℕ) → Inked (inkCell p w h) (markedCells p w h)
 unfolding Inked markedCells
-marked-inked p w h c = go (decLt c (cellsOf w h))
-  where
-    go : Dec (c < cellsOf w h) → getD (tab (cellsOf w h) (λ c. cond (inkCell p w h c) MARK 0)) c 0 ≡ cond (inkCell p w h c) MARK 0
-    go (yes b) = getD-tab (cellsOf w h) (λ c. cond (inkCell p w h c) MARK 0) c 0 b
-    go (no b) =
-        let none : inkCell p w h c ≡ false = falsely (inkCell p w h c) (λ e. b (ink-inside p w h c e)) in
-        List·getD-eq-default (tab (cellsOf w h) (λ c. cond (inkCell p w h c) MARK 0)) 0
-        (rw (length-tab (cellsOf w h) (λ c. cond (inkCell p w h c) MARK 0)) (omega arith))
-        ∙ rw none
+marked-inked p w h =
+    tab-all (cellsOf w h) (λ c. cond (inkCell p w h c) MARK 0) (λ c b. rw (falsely (inkCell p w h c) (λ e. b (ink-inside p w h c e))))
 
 pub picture-pushes : (p : Plane) (w h : ℕ) → 1 ≤ w → w ≤ 4096 → h ≤ 4096 → Pushes p w h
 unfolding cellLabel groupsOf labelling
