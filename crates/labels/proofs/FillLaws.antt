@@ -7,17 +7,16 @@ use mathlib.Core.List.{List, [], _∷_, List·Memᴰ, List·Memᴰ·head, List·
 use mathlib.Core.Logic.{_⊎_, inl, inr, ⊎-elim}
 use mathlib.Core.Path.{_∙_, _≡_, ap, refl, subst, sym}
 use Prim.Native.Nat.{_+_, _<_, _≤_, suc, zero, ℕ}
-use native.Mathlib.Decide.{decLt}
 use native.Mathlib.Omega.{arith}
 use lib.ListN.{getD, length, set}
 use Rattle.labels.proofs.States.{Kept, marks-le, marked-in, visit-by, group-by, visit-kept, visit-done, visits-kept, visits-done, looked-kept, emptied-kept, emptied-empty}
 use Rattle.labels.specs.Labelling.{MARK, State, push, afterVisit, afterVisits, popped, afterTop, emptied, next, afterGroup, afterGroups, start}
 use Rattle.labels.specs.Inner.{marks, Shut}
-use Rattle.laws.proofs.Bools.{at-or-below, clash, which}
+use Rattle.laws.proofs.Bools.{at-or-below, clash, falsely, which}
 use Rattle.laws.proofs.Counts.{count-most, count-no, count-yes}
 use Rattle.laws.proofs.Writes.{at-set}
 use Rattle.laws.specs.Count.{count}
-use Rattle.labels.proofs.Graph.{first-ink, first-of, label-none, label-same, label-first, leader-le, leader-linked, linked-right}
+use Rattle.labels.proofs.Graph.{first-ink, first-of, label-none, label-same, label-first, leader-self, linked-right}
 use Rattle.labels.specs.Labels.{NearGrid, Linked, first?, here, label, leader, near, step}
 
 -- The labels given so far are right and at most the last; what is near a cell with a label has one too, unless that cell is `o` or on the
@@ -187,8 +186,7 @@ module _ (ink : ℕ → Bool) (near : ℕ → ℕ → Bool) (n : ℕ) (g : NearG
       empty = o .empty;
       size = o .size;
       passed = λ c b. ⊎-elim (λ p. rw p m) (λ p. o .passed c p) (at-or-below c s b);
-      counted =
-          o .counted ∙ sym (count-no (first? ink near n) s (⊎-elim (λ p. absurd (new p)) (λ p. p) (which (first? ink near n s))));
+      counted = o .counted ∙ sym (count-no (first? ink near n) s (falsely (first? ink near n s) new));
     }
       where
         new : first? ink near n s ≡ true → ⊥
@@ -215,11 +213,7 @@ module _ (ink : ℕ → Bool) (near : ℕ → ℕ → Bool) (n : ℕ) (g : NearG
 
       -- a cell before `s` that is linked to it would have a label, and `s` then too
       leads : leader ink near n s ≡ s
-      leads = go (decLt (leader ink near n s) s)
-        where
-          go : Dec (leader ink near n s < s) → leader ink near n s ≡ s
-          go (yes b) = absurd (linked-done σ (o .fill) (o .empty) (leader-linked ink near n g s i-s) (o .passed _ b) m)
-          go (no b) = omega (arith, leader-le ink near n g s)
+      leads = leader-self ink near n g s i-s (λ d b r. linked-done σ (o .fill) (o .empty) r (o .passed d b) m)
 
       new : first? ink near n s ≡ true
       new = first-of ink near n g s i-s leads

@@ -1,8 +1,8 @@
 -- Laws of links, first cells and labels.
 --     linked cells: linked-left, linked-right, linked-trans
 --     `reach` decides `Linked`: reach-linked, linked-sym, linked-reach
---     the leader: leader-le, leader-linked, leader-before, leader-same, first-leader, first-of, first-ink, first-leads
---     the label: label-none, label-ink, label-same, label-less, label-linked, label-first
+--     the leader: leader-le, leader-linked, leader-before, leader-same, leader-self, first-leader, first-of, first-ink, first-leads
+--     the label: label-none, label-ink, label-same, label-less, label-linked, label-first, label-most
 -- Assumes nothing.
 use mathlib.Core.Path.{_≡_, sym, _∙_, ap, subst}
 use mathlib.Core.Logic.{_⊎_, inl, inr, ⊎-elim}
@@ -133,6 +133,14 @@ module _ (ink : ℕ → Bool) (near : ℕ → ℕ → Bool) where
         let q : leader ink near n b ≤ leader ink near n a = leader-before _ b (linked-trans (leader-linked a (linked-left r)) r) in
         omega arith
 
+    -- an ink cell to which no cell before it is linked
+    pub leader-self : (c : ℕ) → ink c ≡ true → ((d : ℕ) → d < c → Linked ink near d c → ⊥) → leader ink near n c ≡ c
+    leader-self c i none = go (decLt (leader ink near n c) c)
+      where
+        go : Dec (leader ink near n c < c) → leader ink near n c ≡ c
+        go (yes b) = absurd (none (leader ink near n c) b (leader-linked c i))
+        go (no b) = omega (arith, leader-le c)
+
     pub first-leader : (c : ℕ) → ink c ≡ true → first? ink near n (leader ink near n c) ≡ true
     unfolding first?
     first-leader c i = both (ink (leader ink near n c)) _ (linked-left (leader-linked c i)) (eq-eqb _ _ (leader-same (leader-linked c i)))
@@ -191,3 +199,10 @@ module _ (ink : ℕ → Bool) (near : ℕ → ℕ → Bool) where
     -- the label of a group's first cell, by how many such cells are before it
     pub label-first : (c : ℕ) → first? ink near n c ≡ true → label ink near n c ≡ suc (count (first? ink near n) c)
     label-first c p = label-ink c (first-ink c p) ∙ ap (λ (d : ℕ). suc (count (first? ink near n) d)) (first-leads c p)
+
+    -- no label is above the number of groups
+    pub label-most : (c : ℕ) → ink c ≡ true → label ink near n c ≤ count (first? ink near n) n
+    label-most c i =
+        let q = first-leader c i in
+        let l = leader ink near n c in
+        omega (arith, label-ink c i, count-step (first? ink near n) l n (g .within l (first-ink l q)) q)

@@ -10,12 +10,12 @@ use native.Mathlib.Decide.{decLt}
 use lib.Dec.{eqb}
 use borrow.Author.Tests.{eq-eqb, eqb-true}
 use Rattle.laws.specs.Count.{count, least}
-use Rattle.laws.proofs.Counts.{count-yes, count-no, least-before, least-end, count-step}
+use Rattle.laws.proofs.Counts.{count-yes, count-no, least-before, least-end}
 use Rattle.laws.proofs.Bools.{which, clash, both, and-left, and-right}
 use Rattle.labels.proofs.MovedGroups.{Carry, undo, moved-groups}
 use Rattle.labels.proofs.Sizes.{moved-size}
-use Rattle.labels.specs.Labels.{first?, label, NearGrid, leader}
-use Rattle.labels.proofs.Graph.{first-ink, label-first, label-ink, first-leader}
+use Rattle.labels.specs.Labels.{first?, label, NearGrid}
+use Rattle.labels.proofs.Graph.{first-ink, label-first, label-ink, label-most}
 
 -- the one that meets `p` and has i of them before it
 select : (p : ℕ → Bool) (k i : ℕ) → i < count p k → (c : ℕ) × (c < k) × (p c ≡ true) × (count p c ≡ i)
@@ -82,14 +82,7 @@ module _ {ink : ℕ → Bool} {near : ℕ → ℕ → Bool} {ink′ : ℕ → Bo
   renumber-lt i h =
       let c = f (cellOf ink near n i) in
       let j = m .ink-to (cellOf ink near n i) (cell-of ink near n g i h .0) in
-      let q = first-leader ink′ near′ n′ g′ c j in
-      let l = leader ink′ near′ n′ c in
-      omega (
-        arith,
-        renumber-is i h,
-        label-ink ink′ near′ n′ g′ c j,
-        count-step (first? ink′ near′ n′) l n′ (g′ .within l (first-ink ink′ near′ n′ g′ l q)) q,
-      )
+      omega (arith, renumber-is i h, label-ink ink′ near′ n′ g′ c j, label-most ink′ near′ n′ g′ c j)
 
   -- A group keeps its size.
   pub moved-sized : (i : ℕ) → i < count (first? ink near n) n

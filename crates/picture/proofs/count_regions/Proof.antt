@@ -26,10 +26,14 @@ slice-aggregate-regions : tie.Need-slice-aggregate-regions
 slice-aggregate-regions c = sym (length-take-le _ _ (omega arith))
 
 slice-relend-prefix-regions : tie.Need-slice-relend-prefix-regions
-slice-relend-prefix-regions c = let p = c .before .before .before .before .before .before .before .pre .1 in omega (arith, many-most (p .1), p .0)
+slice-relend-prefix-regions c =
+    let p = c .before .before .before .before .before .before .before .pre .1 in
+    omega (arith, many-most (p .1), p .0)
 
 slice-aggregate-regions-2 : tie.Need-slice-aggregate-regions-2
-slice-aggregate-regions-2 c = let p = c .before .before .before .before .before .before .before .before .pre .1 in sym (length-take-le _ _ (omega (arith, many-most (p .1), p .0)))
+slice-aggregate-regions-2 c =
+    let p = c .before .before .before .before .before .before .before .before .pre .1 in
+    sym (length-take-le _ _ (omega (arith, many-most (p .1), p .0)))
 
 regions-requires : tie.Need-regions-requires
 regions-requires c κs =
