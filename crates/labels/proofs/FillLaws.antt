@@ -71,7 +71,8 @@ module _ (ink : ℕ → Bool) (near : ℕ → ℕ → Bool) (n : ℕ) (g : NearG
 
       closed′ : (c : ℕ) → ink c ≡ true → (getD l′ c 0 ≡ MARK → ⊥) → (c ≡ o) ⊎ (List·Memᴰ c (j ∷ σ .stack) ⊎ Shut near l′ c)
       closed′ c i m = ⊎-elim (λ p. inr (inl (List·Memᴰ·head (p .0))))
-          (λ p. ⊎-elim inl (λ w. inr (⊎-elim (λ x. inl (List·Memᴰ·tail x)) (λ x. inr (now-shut c x)) w)) (s .closed c i (λ y. m (p .1 ∙ y))))
+          (λ p. ⊎-elim inl (λ w. inr (⊎-elim (λ x. inl (List·Memᴰ·tail x)) (λ x. inr (now-shut c x)) w))
+          (s .closed c i (λ y. m (p .1 ∙ y))))
           (at c)
 
       stacked′ : (c : ℕ) → List·Memᴰ c (j ∷ σ .stack) → (ink c ≡ true) × (label ink near n c ≡ σ .given)
@@ -239,7 +240,8 @@ module _ (ink : ℕ → Bool) (near : ℕ → ℕ → Bool) (n : ℕ) (g : NearG
             counted = omega (arith, e .given, k .given, o .counted, count-yes (first? ink near n) s new);
           }
 
-    outer-group : (s t : ℕ) (σ : State) → σ .given + 1 < MARK → n ≤ t → Outer ink near n s σ → Outer ink near n (suc s) (afterGroup round t s σ)
+    outer-group : (s t : ℕ) (σ : State) → σ .given + 1 < MARK → n ≤ t → Outer ink near n s σ
+        → Outer ink near n (suc s) (afterGroup round t s σ)
     outer-group s t σ small enough o = group-by (Outer ink near n (suc s)) round t s σ (outer-mark s t σ small enough o) (outer-skip s σ o)
 
     pub outer-groups : (s t : ℕ) (l : List ℕ) → s ≤ n → n + 1 < MARK → n ≤ t → Outer ink near n 0 (start l)

@@ -45,8 +45,8 @@ undo {f = f} m = record {
 }
 
 -- The groups are the moved groups.
-pub moved-groups : {ink : ℕ → Bool} {near : ℕ → ℕ → Bool} {ink′ : ℕ → Bool} {near′ : ℕ → ℕ → Bool} {f : ℕ → ℕ} (n n′ : ℕ) → NearGrid ink near n
-    → NearGrid ink′ near′ n′ → Carry ink near ink′ near′ f
+pub moved-groups : {ink : ℕ → Bool} {near : ℕ → ℕ → Bool} {ink′ : ℕ → Bool} {near′ : ℕ → ℕ → Bool} {f : ℕ → ℕ} (n n′ : ℕ)
+    → NearGrid ink near n → NearGrid ink′ near′ n′ → Carry ink near ink′ near′ f
     → (a b : ℕ) → ink a ≡ true → ink b ≡ true
     → (label ink near n a ≡ label ink near n b) ↔ (label ink′ near′ n′ (f a) ≡ label ink′ near′ n′ (f b))
 moved-groups {ink} {near} {ink′} {near′} {f} n n′ g g′ m a b i j = (to, from)

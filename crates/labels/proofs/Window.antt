@@ -47,7 +47,8 @@ module _ (w h c : ℕ) (pos : 0 < w) where
       let small : j - g * w < w = omega (arith, b .0, b .1) in
       let column : j % w ≡ j - g * w = ap (λ (y : ℕ). y % w) at ∙ digits-mod g small in
       let line : j / w ≡ g = ap (λ (y : ℕ). y / w) at ∙ digits-div g small in
-      near-of w c j (rw column (close-of _ _ (omega (arith, b)) (omega (arith, b)))) (rw line (close-of _ _ (omega (arith, r .1)) (omega (arith, r .1))))
+      near-of w c j (rw column (close-of _ _ (omega (arith, b)) (omega (arith, b))))
+      (rw line (close-of _ _ (omega (arith, r .1)) (omega (arith, r .1))))
 
   window-all : (j : ℕ) → near w c j ≡ true → j < h * w → List·Memᴰ j (window w h c)
   unfolding window

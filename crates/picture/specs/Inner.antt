@@ -1,5 +1,5 @@
--- What the picture door's inner functions keep: the checks of the lent lists, also as facts, and the labels of a picture in a lent list. Definitions only. Assumes
--- nothing.
+-- What the picture door's inner functions keep: the checks of the lent lists, also as facts, and the labels of a picture in a lent list.
+-- Definitions only. Assumes nothing.
 use mathlib.Core.List.{List}
 use mathlib.Core.Path.{_≡_}
 use Prim.Native.Nat.{ℕ, _*_, _≤_}

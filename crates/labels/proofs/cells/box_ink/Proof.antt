@@ -68,7 +68,8 @@ loop-again c =
     let at = c .before .before .before in
     let a = at .before .before .args in
     let within = row-inside (at .before .before .pre) (c .before .before .loop-test .taken) in
-    (omega arith, box-step (now (a .s)) (a .w) (a .x0) (a .y0) (a .lx) (at .loop .j) (a .t) within (at .loop .inv .1) (c .row-ink .ensures .0))
+    let more = c .row-ink .ensures .0 in
+    (omega arith, box-step (now (a .s)) (a .w) (a .x0) (a .y0) (a .lx) (at .loop .j) (a .t) within (at .loop .inv .1) more)
 
 returns : tie.Need-returns Inv-loop μ-loop
 returns c =

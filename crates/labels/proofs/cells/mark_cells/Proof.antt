@@ -57,8 +57,8 @@ loop-again : tie.Need-loop-again Inv-loop μ-loop
 unfolding cellMarkAt
 loop-again c =
     let at = c .before .before .before .before in
-    drawing-row (at .loop .inv) (omega arith) (omega arith) (c .before .mark-of .ensures ∙ ap cellMark (c .before .before .cell-ink .ensures))
-    (c .if1 .taken ∙ at .before .before .region-cells .ensures)
+    drawing-row (at .loop .inv) (omega arith) (omega arith)
+    (c .before .mark-of .ensures ∙ ap cellMark (c .before .before .cell-ink .ensures)) (c .if1 .taken ∙ at .before .before .region-cells .ensures)
 
 loop-less-2 : tie.Need-loop-less-2 Inv-loop μ-loop
 loop-less-2 c = search needs
@@ -67,7 +67,8 @@ loop-again-2 : tie.Need-loop-again-2 Inv-loop μ-loop
 unfolding cellMarkAt
 loop-again-2 c =
     let at = c .before .before .before .before in
-    drawing-on (at .loop .inv) (omega arith) (omega arith) (c .before .mark-of .ensures ∙ ap cellMark (c .before .before .cell-ink .ensures))
+    drawing-on (at .loop .inv) (omega arith) (omega arith)
+    (c .before .mark-of .ensures ∙ ap cellMark (c .before .before .cell-ink .ensures))
     (λ full. c .if1 .left (full ∙ sym (at .before .before .region-cells .ensures)))
 
 same-length : tie.Need-same-length Inv-loop μ-loop
