@@ -12,7 +12,6 @@ use native.Mathlib.Decide.{decLt}
 use native.Mathlib.Nat.{add-assoc, mul-comm, mul-le-mul, mul-le-mul-right, mul-one}
 use native.Mathlib.Omega.{arith}
 use lib.Dec.{ltb}
-use lib.Ieee.{low}
 use lib.ListN.{List·getD-eq-default, drop, getD, length, length-drop, length-take, take}
 use lib.Seq.{take-at}
 use borrow.Author.Tests.{lt-ltb}
@@ -25,7 +24,6 @@ use Rattle.laws.specs.Plane.{Plane, box, boxRow, drawn, plane, rowwise}
 use Rattle.levels.proofs.Hist.{sum-le}
 use Rattle.levels.specs.Level.{inkOf, cells, inkAt, level}
 use Rattle.picture_checks.specs.Picture.{Picture}
-use Rattle.labels.proofs.Near.{grid}
 use Rattle.labels.specs.Cells.{cells8, cellsOf, inkCell, inkPixels, span8}
 
 -- ---- how many cells there are

@@ -1,7 +1,7 @@
 -- What the labelling's loops keep: the state that their lists show.
 --     parts of the grid one after the other: Parts, parts-begin, parts-turn, parts-end; one-by-one
 --     the rows of a window: Rows, rows-begin, rows-within, rows-turn, rows-end
---     the cells on the stack: Flow, flow-begin, flow-turn, flow-less, flow-end
+--     the cells on the stack: Flow, flow-begin, flow-safe, flow-inside, flow-less, flow-turn, flow-end
 --     the cells of a grid: Cells, cells-begin, cells-turn, cells-end; group-skip, group-fill
 -- Assumes nothing.
 use mathlib.Core.List.{List, [], _∷_, _++_, List·Memᴰ, List·Memᴰ·head, List·Memᴰ·tail}
@@ -22,7 +22,7 @@ use Rattle.labels.proofs.Window.{row-within}
 use Rattle.labels.proofs.States.{Kept, marks-le, visit-kept, visits-kept, visits-add, emptied-none, shown, shown-shows, safe-begin, safe-on}
 
 -- ---- parts of the grid visited one after the other
--- The cells of the parts from a up to j are visited, from lists that show a state to lists that show it after these visits.
+-- Of the parts from a up to b those before j are visited, from lists that show a state to lists that show it after these visits.
 pub record Parts (part : ℕ → List ℕ) (a b v : ℕ) (l₀ st₀ : List ℕ) (k₀ : ℕ) (l st : List ℕ) (k j : ℕ) : Type 0 where
   pub from : a ≤ j
   pub upto : j ≤ b

@@ -11,7 +11,6 @@ use native.Mathlib.Omega.{arith}
 use lib.ListN.{getD, length}
 use lib.Seq.{getD-set-same}
 use Rattle.laws.specs.Lists.{NoDup}
-use Rattle.laws.proofs.Bools.{falsely}
 use Rattle.laws.proofs.Folds.{length-tab}
 use Rattle.laws.specs.Plane.{Plane}
 use Rattle.labels.specs.Cells.{cells8, cellsOf, inkCell, cellLabel, groupsOf}
@@ -21,7 +20,7 @@ use Rattle.labels.specs.Claims.{EachOnce, Pushes}
 use Rattle.labels.proofs.States.{Kept, marks-le, marks-set, marked-in, visit-open, visit-by, group-by, visit-kept, emptied-kept}
 use Rattle.labels.proofs.InkCells.{cells-few, tab-all}
 use Rattle.labels.proofs.Labellings.{labels-are, labels-many}
-use Rattle.labels.proofs.Pictures.{ink-inside}
+use Rattle.labels.proofs.Pictures.{ink-outside}
 
 -- What a state on the way keeps: a pushed cell is no mark any more; with the marks that are left, as many were pushed as there were marks.
 pub record Pushing (l : List ℕ) (σ : State) : Type 0 where
@@ -116,8 +115,7 @@ picture-grid p w h low wide high = record {
 
 pub marked-inked : (p : Plane) (w h : ℕ) → Inked (inkCell p w h) (markedCells p w h)
 unfolding Inked markedCells
-marked-inked p w h =
-    tab-all (cellsOf w h) (λ c. cond (inkCell p w h c) MARK 0) (λ c b. rw (falsely (inkCell p w h c) (λ e. b (ink-inside p w h c e))))
+marked-inked p w h = tab-all (cellsOf w h) (λ c. cond (inkCell p w h c) MARK 0) (λ c b. rw (ink-outside p w h c b))
 
 pub picture-pushes : (p : Plane) (w h : ℕ) → 1 ≤ w → w ≤ 4096 → h ≤ 4096 → Pushes p w h
 unfolding cellLabel groupsOf labelling

@@ -62,7 +62,7 @@ fn part_ink(s: &[u8], w: usize, x0: usize, y0: usize, lx: usize, ly: usize, t: u
     box_ink(s, w, x0, y0, lx, ly, t)
 }
 
-// How many region cells a side has, and how many a picture of w by h.
+// How many region cells a side has.
 pub fn region_cells(n: usize) -> usize
     requires { ⌜ n ≤ 4096 ⌝ }
     ensures { λ r. ⌜ r ≡ cells8 n ⌝ }
@@ -70,6 +70,7 @@ pub fn region_cells(n: usize) -> usize
     (n + 7) / 8
 }
 
+// How many region cells a picture has: rows by columns.
 pub fn cells_in(w: usize, h: usize) -> usize
     requires { ⌜ (w ≤ 4096) × (h ≤ 4096) ⌝ }
     ensures { λ r. ⌜ (r ≡ cellsOf w h) × (r ≤ 262144) ⌝ }

@@ -1,26 +1,25 @@
 -- The outcome of the door put together: checks in order, the level grid for the marks, marks for the labels, labels for the regions.
---     the checks, the level grid: lists-passed, levelled-of, level-cells-few
+--     the level grid, the checks: levelled-of, lists-passed, level-cells-few
 --     marks, then labels: mapped
 --     the regions of the labels: labelled-by, labels-most, many-most
 --     the answer: answer-refused
 -- Assumes nothing.
 use mathlib.Core.List.{List, _++_}
 use mathlib.Core.Path.{_∙_, _≡_, ap, ap₂, refl, sym}
-use Prim.Native.Nat.{_*_, _<_, _≤_, suc, zero, ℕ}
+use Prim.Native.Nat.{_*_, _≤_, suc, zero, ℕ}
 use native.Mathlib.Nat.{mul-comm, mul-le-mul}
 use native.Mathlib.Omega.{arith}
 use lib.Dec.{leb, lit<}
+use lib.ListN.{drop, getD, length, take}
 use borrow.Author.Tests.{leb-true}
 use Rattle.picture_checks.proofs.Checked.{check-step}
-use lib.ListN.{drop, getD, length, take}
 use Rattle.picture_checks.specs.Picture.{Picture}
 use Rattle.labels.proofs.InkCells.{cells-drawn, marks-are, tab-all}
 use Rattle.labels.proofs.Pushes.{picture-pushes}
 use Rattle.labels.specs.Claims.{Pushes}
 use Rattle.labels.specs.Labelling.{State, labelling, pictureLabelling}
 use Rattle.labels.proofs.Labelled.{cell-most, labelling as labelling-of}
-use Rattle.labels.proofs.Pictures.{ink-inside}
-use Rattle.laws.proofs.Bools.{falsely}
+use Rattle.labels.proofs.Pictures.{ink-outside}
 use Rattle.labels.specs.Inner.{Levelled, cellMarkAt}
 use Rattle.laws.proofs.Counts.{count-most}
 use Rattle.laws.proofs.Folds.{is-tab}
@@ -31,7 +30,6 @@ use Rattle.laws.specs.Lent.{UntouchedPast, laid}
 use Rattle.laws.specs.Plane.{Plane, drawn, plane, rowwise}
 use Rattle.levels.specs.Level.{cells, level}
 use Rattle.picture.specs.Inner.{checkLists, LabelledBy, ListRooms}
-use Rattle.labels.proofs.Near.{grid}
 use Rattle.labels.proofs.MovedGroups.{cell-of}
 use Rattle.labels.specs.Cells.{cellLabel, cells8, cellsOf, groupsOf, inkCell, labelAt}
 use Rattle.picture.specs.Door.{answerBy, refusedBy}
@@ -113,13 +111,12 @@ module _ {s labels : List ℕ} {w h v : ℕ} (by : LabelledBy s w h labels v) wh
   -- a label is at most the number of labels, past the list's end too
   pub labels-most : (c : ℕ) → getD (take (cellsOf w h) labels) c 0 ≤ v
   labels-most c =
-      let none : (d : ℕ) → (d < cellsOf w h → ⊥) → cellLabel (plane w s) w h d ≡ 0 =
-      λ d b. labelling-of (plane w s) w h .none d .1 (falsely (inkCell (plane w s) w h d) (λ i. b (ink-inside (plane w s) w h d i))) in
+      let p = plane w s in
       omega (
         arith,
         ap (λ (l : List ℕ). getD l c 0) (by .held),
-        tab-all (cellsOf w h) (cellLabel (plane w s) w h) none c,
-        cell-most (plane w s) w h c,
+        tab-all (cellsOf w h) (cellLabel p w h) (λ d b. labelling-of p w h .none d .1 (ink-outside p w h d b)) c,
+        cell-most p w h c,
         by .all,
       )
 

@@ -58,7 +58,8 @@ unfolding cellMarkAt
 loop-again c =
     let at = c .before .before .before .before in
     drawing-row (at .loop .inv) (omega arith) (omega arith)
-    (c .before .mark-of .ensures ∙ ap cellMark (c .before .before .cell-ink .ensures)) (c .if1 .taken ∙ at .before .before .region-cells .ensures)
+    (c .before .mark-of .ensures ∙ ap cellMark (c .before .before .cell-ink .ensures))
+    (c .if1 .taken ∙ at .before .before .region-cells .ensures)
 
 loop-less-2 : tie.Need-loop-less-2 Inv-loop μ-loop
 loop-less-2 c = search needs
