@@ -7,17 +7,16 @@ use mathlib.Core.List.{List, [], _∷_, List·Memᴰ, List·Memᴰ·head, List·
 use mathlib.Core.Logic.{_⊎_, inl, inr, ⊎-elim}
 use mathlib.Core.Path.{_∙_, _≡_, ap, refl, subst, sym}
 use Prim.Native.Nat.{_+_, _<_, _≤_, suc, zero, ℕ}
-use native.Mathlib.Decide.{decLt}
 use native.Mathlib.Omega.{arith}
 use lib.ListN.{getD, length, set}
 use Rattle.labels.proofs.States.{Kept, marks-le, marked-in, visit-by, group-by, visit-kept, visit-done, visits-kept, visits-done, looked-kept, emptied-kept, emptied-empty}
 use Rattle.labels.specs.Labelling.{MARK, State, push, afterVisit, afterVisits, popped, afterTop, emptied, next, afterGroup, afterGroups, start}
 use Rattle.labels.specs.Inner.{marks, Shut}
-use Rattle.laws.proofs.Bools.{at-or-below, clash, which}
+use Rattle.laws.proofs.Bools.{at-or-below, clash, falsely, which}
 use Rattle.laws.proofs.Counts.{count-most, count-no, count-yes}
 use Rattle.laws.proofs.Writes.{at-set}
 use Rattle.laws.specs.Count.{count}
-use Rattle.labels.proofs.Graph.{first-ink, first-of, label-none, label-same, labelled, leader-le, leader-linked, linked-right}
+use Rattle.labels.proofs.Graph.{first-ink, first-of, label-none, label-same, label-first, leader-self, linked-right}
 use Rattle.labels.specs.Labels.{NearGrid, Linked, first?, here, label, leader, near, step}
 
 -- The labels given so far are right and at most the last; what is near a cell with a label has one too, unless that cell is `o` or on the
@@ -72,7 +71,8 @@ module _ (ink : ℕ → Bool) (near : ℕ → ℕ → Bool) (n : ℕ) (g : NearG
 
       closed′ : (c : ℕ) → ink c ≡ true → (getD l′ c 0 ≡ MARK → ⊥) → (c ≡ o) ⊎ (List·Memᴰ c (j ∷ σ .stack) ⊎ Shut near l′ c)
       closed′ c i m = ⊎-elim (λ p. inr (inl (List·Memᴰ·head (p .0))))
-          (λ p. ⊎-elim inl (λ w. inr (⊎-elim (λ x. inl (List·Memᴰ·tail x)) (λ x. inr (now-shut c x)) w)) (s .closed c i (λ y. m (p .1 ∙ y))))
+          (λ p. ⊎-elim inl (λ w. inr (⊎-elim (λ x. inl (List·Memᴰ·tail x)) (λ x. inr (now-shut c x)) w))
+          (s .closed c i (λ y. m (p .1 ∙ y))))
           (at c)
 
       stacked′ : (c : ℕ) → List·Memᴰ c (j ∷ σ .stack) → (ink c ≡ true) × (label ink near n c ≡ σ .given)
@@ -187,14 +187,13 @@ module _ (ink : ℕ → Bool) (near : ℕ → ℕ → Bool) (n : ℕ) (g : NearG
       empty = o .empty;
       size = o .size;
       passed = λ c b. ⊎-elim (λ p. rw p m) (λ p. o .passed c p) (at-or-below c s b);
-      counted =
-          o .counted ∙ sym (count-no (first? ink near n) s (⊎-elim (λ p. absurd (new p)) (λ p. p) (which (first? ink near n s))));
+      counted = o .counted ∙ sym (count-no (first? ink near n) s (falsely (first? ink near n s) new));
     }
       where
         new : first? ink near n s ≡ true → ⊥
         new p =
             let i = first-ink ink near n g s p in
-            omega (arith, o .fill .right s i m .1, labelled ink near n g .counted s p, o .counted)
+            omega (arith, o .fill .right s i m .1, label-first ink near n g s p, o .counted)
 
     module _ (s t : ℕ) (σ : State) (small : σ .given + 1 < MARK) (enough : n ≤ t) (o : Outer ink near n s σ)
         (m : getD (σ .held) s 0 ≡ MARK) where
@@ -215,17 +214,13 @@ module _ (ink : ℕ → Bool) (near : ℕ → ℕ → Bool) (n : ℕ) (g : NearG
 
       -- a cell before `s` that is linked to it would have a label, and `s` then too
       leads : leader ink near n s ≡ s
-      leads = go (decLt (leader ink near n s) s)
-        where
-          go : Dec (leader ink near n s < s) → leader ink near n s ≡ s
-          go (yes b) = absurd (linked-done σ (o .fill) (o .empty) (leader-linked ink near n g s i-s) (o .passed _ b) m)
-          go (no b) = omega (arith, leader-le ink near n g s)
+      leads = leader-self ink near n g s i-s (λ d b r. linked-done σ (o .fill) (o .empty) r (o .passed d b) m)
 
       new : first? ink near n s ≡ true
       new = first-of ink near n g s i-s leads
 
       label-s : label ink near n s ≡ σ .given + 1
-      label-s = omega (arith, labelled ink near n g .counted s new, o .counted)
+      label-s = omega (arith, label-first ink near n g s new, o .counted)
 
       room : length (τ .stack) + marks (τ .held) ≤ t
       room =
@@ -245,7 +240,8 @@ module _ (ink : ℕ → Bool) (near : ℕ → ℕ → Bool) (n : ℕ) (g : NearG
             counted = omega (arith, e .given, k .given, o .counted, count-yes (first? ink near n) s new);
           }
 
-    outer-group : (s t : ℕ) (σ : State) → σ .given + 1 < MARK → n ≤ t → Outer ink near n s σ → Outer ink near n (suc s) (afterGroup round t s σ)
+    outer-group : (s t : ℕ) (σ : State) → σ .given + 1 < MARK → n ≤ t → Outer ink near n s σ
+        → Outer ink near n (suc s) (afterGroup round t s σ)
     outer-group s t σ small enough o = group-by (Outer ink near n (suc s)) round t s σ (outer-mark s t σ small enough o) (outer-skip s σ o)
 
     pub outer-groups : (s t : ℕ) (l : List ℕ) → s ≤ n → n + 1 < MARK → n ≤ t → Outer ink near n 0 (start l)

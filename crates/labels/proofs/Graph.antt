@@ -1,8 +1,8 @@
 -- Laws of links, first cells and labels.
 --     linked cells: linked-left, linked-right, linked-trans
---     `reach` decides `Linked`: reach-linked, linked-sym, linked-reach, unlinked
---     the leader: leader-le, leader-linked, leader-before, leader-same, leader-twice, first-leader, first-of, first-ink, first-leads
---     the label: label-none, label-ink, label-same, label-less, label-linked, Labelled, labelled, unique
+--     `reach` decides `Linked`: reach-linked, linked-sym, linked-reach
+--     the leader: leader-le, leader-linked, leader-before, leader-same, leader-self, first-leader, first-of, first-ink, first-leads
+--     the label: label-none, label-ink, label-same, label-less, label-linked, label-first, label-most
 -- Assumes nothing.
 use mathlib.Core.Path.{_≡_, sym, _∙_, ap, subst}
 use mathlib.Core.Logic.{_⊎_, inl, inr, ⊎-elim}
@@ -13,11 +13,9 @@ use native.Mathlib.Decide.{decLt}
 use lib.Dec.{eqb}
 use borrow.Author.Tests.{eq-eqb, eqb-true}
 use Rattle.labels.specs.Labels.{Linked, here, step, reach, leader, first?, label, NearGrid}
-use Rattle.laws.proofs.Bools.{both, and-left, and-right, either, or-left, or-right, which, clash, at-or-below}
+use Rattle.laws.proofs.Bools.{both, and-left, and-right, either, or-left, or-right, clash, at-or-below}
 use Rattle.laws.proofs.Counts.{least-le, least-holds, least-before, count-step}
 use Rattle.laws.specs.Count.{least, count}
-
--- ---- the definitions
 
 module _ (ink : ℕ → Bool) (near : ℕ → ℕ → Bool) where
   -- ---- linked cells
@@ -110,9 +108,6 @@ module _ (ink : ℕ → Bool) (near : ℕ → ℕ → Bool) where
     linked-reach (step {a = a} {b = b} {c = c} r h i) =
         through n b (g .within b (linked-right r)) a c (linked-reach r) (all-more n b c (reach-near b c (linked-right r) i h))
 
-    pub unlinked : (a b : ℕ) → reach ink near n a b ≡ false → Linked ink near a b → ⊥
-    unlinked a b p r = clash (linked-reach r) p
-
     -- ---- the leader
 
     pub leader-le : (c : ℕ) → leader ink near n c ≤ c
@@ -128,7 +123,7 @@ module _ (ink : ℕ → Bool) (near : ℕ → ℕ → Bool) where
     leader-before d c r = go (decLt d (least (λ e. reach ink near n e c) c))
       where
         go : Dec (d < least (λ e. reach ink near n e c) c) → least (λ e. reach ink near n e c) c ≤ d
-        go (yes h) = absurd (unlinked d c (least-before (λ e. reach ink near n e c) c d h) r)
+        go (yes h) = absurd (clash (linked-reach r) (least-before (λ e. reach ink near n e c) c d h))
         go (no h) = omega arith
 
     pub leader-same : {a b : ℕ} → Linked ink near a b → leader ink near n a ≡ leader ink near n b
@@ -138,12 +133,17 @@ module _ (ink : ℕ → Bool) (near : ℕ → ℕ → Bool) where
         let q : leader ink near n b ≤ leader ink near n a = leader-before _ b (linked-trans (leader-linked a (linked-left r)) r) in
         omega arith
 
-    pub leader-twice : (c : ℕ) → ink c ≡ true → leader ink near n (leader ink near n c) ≡ leader ink near n c
-    leader-twice c i = leader-same (leader-linked c i)
+    -- an ink cell to which no cell before it is linked
+    pub leader-self : (c : ℕ) → ink c ≡ true → ((d : ℕ) → d < c → Linked ink near d c → ⊥) → leader ink near n c ≡ c
+    leader-self c i none = go (decLt (leader ink near n c) c)
+      where
+        go : Dec (leader ink near n c < c) → leader ink near n c ≡ c
+        go (yes b) = absurd (none (leader ink near n c) b (leader-linked c i))
+        go (no b) = omega (arith, leader-le c)
 
     pub first-leader : (c : ℕ) → ink c ≡ true → first? ink near n (leader ink near n c) ≡ true
     unfolding first?
-    first-leader c i = both (ink (leader ink near n c)) _ (linked-left (leader-linked c i)) (eq-eqb _ _ (leader-twice c i))
+    first-leader c i = both (ink (leader ink near n c)) _ (linked-left (leader-linked c i)) (eq-eqb _ _ (leader-same (leader-linked c i)))
 
     pub first-of : (c : ℕ) → ink c ≡ true → leader ink near n c ≡ c → first? ink near n c ≡ true
     unfolding first?
@@ -196,23 +196,13 @@ module _ (ink : ℕ → Bool) (near : ℕ → ℕ → Bool) where
             go (no h) (yes k) = absurd (omega (arith, label-less b a j i k))
             go (no h) (no k) = omega arith
 
-    -- Any numbers with these three properties are the labels.
-    pub record Labelled (l : ℕ → ℕ) : Type 0 where
-      pub none : (c : ℕ) → ink c ≡ false → l c ≡ 0
-      pub shared : (a b : ℕ) → Linked ink near a b → l a ≡ l b
-      pub counted : (c : ℕ) → first? ink near n c ≡ true → l c ≡ suc (count (first? ink near n) c)
+    -- the label of a group's first cell, by how many such cells are before it
+    pub label-first : (c : ℕ) → first? ink near n c ≡ true → label ink near n c ≡ suc (count (first? ink near n) c)
+    label-first c p = label-ink c (first-ink c p) ∙ ap (λ (d : ℕ). suc (count (first? ink near n) d)) (first-leads c p)
 
-    pub labelled : Labelled (label ink near n)
-    labelled = record {
-      none = label-none;
-      shared = λ a b r. label-same r;
-      counted = λ c p. label-ink c (first-ink c p) ∙ ap (λ (d : ℕ). suc (count (first? ink near n) d)) (first-leads c p);
-    }
-
-    pub unique : (l : ℕ → ℕ) → Labelled l → (c : ℕ) → l c ≡ label ink near n c
-    unique l p c = go (which (ink c))
-      where
-        go : (ink c ≡ true) ⊎ (ink c ≡ false) → l c ≡ label ink near n c
-        go (inr i) = p .none c i ∙ sym (label-none c i)
-        go (inl i) = sym (p .shared (leader ink near n c) c (leader-linked c i))
-            ∙ (p .counted (leader ink near n c) (first-leader c i) ∙ sym (label-ink c i))
+    -- no label is above the number of groups
+    pub label-most : (c : ℕ) → ink c ≡ true → label ink near n c ≤ count (first? ink near n) n
+    label-most c i =
+        let q = first-leader c i in
+        let l = leader ink near n c in
+        omega (arith, label-ink c i, count-step (first? ink near n) l n (g .within l (first-ink l q)) q)

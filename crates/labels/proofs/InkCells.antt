@@ -1,31 +1,34 @@
--- Laws of ink cells: pixels below a threshold counted row by row (row-step, box-step), the count of a cell (cell-ink-is), and marks as ink
--- cells (marks-are). Assumes nothing.
-use mathlib.Core.Bool.{Bool, _&&_, cond, false, true}
+-- Laws of ink cells.
+--     how many cells there are: cells-few
+--     pixels below a threshold, row by row: row-none, row-step, row-le, box-step, box-le, row-inside
+--     the count of a cell: level-place, inside-cell, cell-ink-is
+--     lists of cells: cells-drawn, tab-all, marks-are
+-- Assumes nothing.
+use mathlib.Core.Bool.{cond}
 use mathlib.Core.List.{List}
-use mathlib.Core.Path.{_∙_, _≡_, ap, refl}
-use Prim.Native.Nat.{_%_, _*_, _+_, _-_, _/_, _<_, _≤_, ℕ}
-use native.Mathlib.Nat.{add-assoc, mul-comm, mul-le-mul-right, mul-one}
+use mathlib.Core.Path.{_∙_, _≡_, ap, refl, sym}
+use Prim.Native.Nat.{_*_, _+_, _-_, _/_, _<_, _≤_, ℕ}
+use native.Mathlib.Decide.{decLt}
+use native.Mathlib.Nat.{add-assoc, mul-comm, mul-le-mul, mul-le-mul-right, mul-one}
 use native.Mathlib.Omega.{arith}
-use lib.Dec.{leb, ltb}
-use lib.Ieee.{low}
-use lib.ListN.{drop, getD, length, length-drop, length-take, take}
-use lib.Seq.{getD-take, length-take-le}
+use lib.Dec.{ltb}
+use lib.ListN.{List·getD-eq-default, drop, getD, length, length-drop, length-take, take}
+use lib.Seq.{take-at}
 use borrow.Author.Tests.{lt-ltb}
 use Rattle.labels.specs.Inner.{CellInside, Levelled, below, cellMarkAt, rowBelow}
 use Rattle.labels.specs.Labelling.{MARK, markedCells}
-use Rattle.laws.proofs.Folds.{fold-ext, fold-suc, getD-written, is-tab}
-use Rattle.laws.proofs.Planes.{box-ext, box-more, getD-part, part}
-use Rattle.laws.specs.Fold.{bit, fold, sumTo}
+use Rattle.laws.proofs.Folds.{bit-le, fold-ext, fold-suc, getD-tab, length-tab, tab-ext}
+use Rattle.laws.proofs.Planes.{box-ext, box-more, getD-part, part, place-lt, row-end}
+use Rattle.laws.specs.Fold.{bit, fold, sumTo, tab}
 use Rattle.laws.specs.Plane.{Plane, box, boxRow, drawn, plane, rowwise}
 use Rattle.levels.proofs.Hist.{sum-le}
 use Rattle.levels.specs.Level.{inkOf, cells, inkAt, level}
 use Rattle.picture_checks.specs.Picture.{Picture}
-use Rattle.labels.proofs.Near.{grid}
 use Rattle.labels.specs.Cells.{cells8, cellsOf, inkCell, inkPixels, span8}
 
-bit-le : (b : Bool) → bit b ≤ 1
-bit-le true = omega arith
-bit-le false = omega arith
+-- ---- how many cells there are
+pub cells-few : {w h : ℕ} → w ≤ 4096 → h ≤ 4096 → cellsOf w h ≤ 262144
+cells-few {w} {h} wide high = mul-le-mul {n₁ = cells8 h} {m₁ = cells8 w} {n₂ = 512} {m₂ = 512} (omega arith) (omega arith)
 
 -- ---- a row
 pub row-none : (row : List ℕ) (t : ℕ) → sumTo 0 (rowBelow row t) ≡ 0
@@ -66,7 +69,17 @@ box-le p x0 y0 lx ly t =
     sum-le lx ly (λ j. fold _+_ 0 lx (λ i. bit (ltb (p (x0 + i) (y0 + j)) t)))
     (λ j. rw (mul-one lx) at (sum-le 1 lx (λ i. bit (ltb (p (x0 + i) (y0 + j)) t)) (λ i. bit-le (ltb (p (x0 + i) (y0 + j)) t))))
 
+-- a row of the part lies in the picture
+pub row-inside : {s : List ℕ} {w x0 y0 lx ly j : ℕ} → CellInside s w x0 y0 lx ly → j < ly → (y0 + j) * w + x0 + lx ≤ length s
+row-inside {w = w} {y0 = y0} {ly = ly} {j = j} p l = omega (arith, p .right, p .bottom, row-end (y0 + j) (y0 + ly) w (omega arith))
+
 -- ---- a cell
+-- the level cell in which a cell lies
+pub level-place : {s grid : List ℕ} {w h cw : ℕ} (cx cy : ℕ) → Levelled s w h grid → 8 * cx < w → 8 * cy < h → cw ≡ cells w
+    → cy / 2 * cw + cx / 2 < length grid
+level-place {w = w} {h} cx cy p lw lh e =
+    rw e (omega (arith, place-lt (cx / 2) (cy / 2) (cells w) (cells h) (omega arith) (omega arith), p .room))
+
 half : (c i : ℕ) → i < 8 → (8 * c + i) / 16 ≡ c / 2
 half c i l = omega arith
 
@@ -92,20 +105,26 @@ cell-ink-is {s} {grid} {w} {h} held cx cy {t} lw lh et ex ey =
     (span8 h cy)
     (λ i j li lj. rw (half cx i (omega arith), half cy j (omega arith), level-t)))
 
--- ---- marks
+-- ---- lists of cells
+-- the cells of a drawn list in row order
+pub cells-drawn : (w h : ℕ) (g : Plane) (f : ℕ → ℕ) (old : List ℕ) {l : List ℕ} → l ≡ drawn w h g old
+    → ((c : ℕ) → c < h * w → rowwise w g c ≡ f c) → take (h * w) l ≡ tab (h * w) f
+cells-drawn w h g f old e same =
+    ap (take (h * w)) (rw (mul-comm w h) at e)
+    ∙ take-at (tab (h * w) (rowwise w g)) (drop (h * w) old) (h * w) (length-tab (h * w) (rowwise w g))
+    ∙ tab-ext (h * w) (rowwise w g) f same
+
+-- with nothing past the cells, each of them
+pub tab-all : (n : ℕ) (f : ℕ → ℕ) → ((c : ℕ) → (c < n → ⊥) → f c ≡ 0) → (c : ℕ) → getD (tab n f) c 0 ≡ f c
+tab-all n f none c = go (decLt c n)
+  where
+    go : Dec (c < n) → getD (tab n f) c 0 ≡ f c
+    go (yes b) = getD-tab n f c 0 b
+    go (no b) = List·getD-eq-default (tab n f) 0 (rw (length-tab n f) (omega arith)) ∙ sym (none c b)
+
 -- the marks that the code makes are those of the picture's cells
-pub marks-are : (p : Plane) (w h : ℕ) (l old : List ℕ) → cellsOf w h ≤ length l → l ≡ drawn (cells8 w) (cells8 h) (cellMarkAt p w h) old
+pub marks-are : (p : Plane) (w h : ℕ) (old : List ℕ) {l : List ℕ} → l ≡ drawn (cells8 w) (cells8 h) (cellMarkAt p w h) old
     → take (cellsOf w h) l ≡ markedCells p w h
 unfolding markedCells inkCell cellMarkAt
-marks-are p w h l old room e =
-    is-tab (cellsOf w h) (λ c. cond (inkCell p w h c) MARK 0) (take (cellsOf w h) l) (length-take-le (cellsOf w h) l room) mark
-  where
-    mark : (c : ℕ) → c < cellsOf w h
-        → getD (take (cellsOf w h) l) c 0 ≡ cond (ltb c (cellsOf w h) && leb 4 (inkPixels p w h (c % cells8 w) (c / cells8 w))) MARK 0
-    mark c b =
-        let b′ : c < cells8 w * cells8 h = rw (mul-comm (cells8 h) (cells8 w)) at b in
-        let t : ltb c (cellsOf w h) ≡ true = lt-ltb c (cellsOf w h) b in
-        getD-take (cellsOf w h) l c 0 b
-        ∙ ap (λ (k : List ℕ). getD k c 0) e
-        ∙ getD-written (cells8 w * cells8 h) (rowwise (cells8 w) (cellMarkAt p w h)) old c 0 b′
-        ∙ rw t
+marks-are p w h old e =
+    cells-drawn (cells8 w) (cells8 h) (cellMarkAt p w h) (λ c. cond (inkCell p w h c) MARK 0) old e (λ c b. rw (lt-ltb c (cellsOf w h) b))

@@ -1,21 +1,18 @@
 -- What labels are: `labelling`, of every picture; no label is above the number of groups: cell-most.
---     label-some, label-most, label-zero     which labels there are
---     first-lead                             the first cell of a label leads its group
+--     label-some, label-zero     which labels there are
+--     first-lead                 the first cell of a label leads its group
 -- Assumes nothing.
 use mathlib.Core.Path.{_≡_}
-use mathlib.Core.Logic.{_⊎_, inl, inr, ⊎-elim}
+use mathlib.Core.Logic.{⊎-elim}
 use mathlib.Core.Bool.{Bool, true, false}
 use Prim.Native.Nat.{ℕ, _<_, _≤_}
 use native.Mathlib.Omega.{arith}
-use native.Mathlib.Decide.{decLt}
 use Rattle.laws.specs.Plane.{Plane}
-use Rattle.laws.specs.Count.{count}
-use Rattle.laws.proofs.Bools.{which}
-use Rattle.laws.proofs.Counts.{count-step}
-use Rattle.labels.specs.Labels.{near, leader, first?, label, NearGrid}
+use Rattle.laws.proofs.Bools.{falsely, which}
+use Rattle.labels.specs.Labels.{near, leader, label, NearGrid}
 use Rattle.labels.specs.Cells.{cells8, cellsOf, inkCell, cellLabel, groupsOf}
 use Rattle.labels.specs.Claims.{Labelling}
-use Rattle.labels.proofs.Graph.{leader-le, leader-linked, first-leader, first-ink, label-none, label-ink, label-same, label-less, label-linked}
+use Rattle.labels.proofs.Graph.{leader-self, label-none, label-ink, label-same, label-less, label-linked, label-most}
 use Rattle.labels.proofs.Order.{cellOf, cell-of}
 use Rattle.labels.proofs.Pictures.{grid-of, ink-inside}
 
@@ -24,26 +21,12 @@ module _ (ink : ℕ → Bool) (near : ℕ → ℕ → Bool) (n : ℕ) (g : NearG
   label-some : (c : ℕ) → ink c ≡ true → 1 ≤ label ink near n c
   label-some c i = omega (arith, label-ink ink near n g c i)
 
-  label-most : (c : ℕ) → ink c ≡ true → label ink near n c ≤ count (first? ink near n) n
-  label-most c i =
-      let q = first-leader ink near n g c i in
-      let l = leader ink near n c in
-      omega (arith, label-ink ink near n g c i, count-step (first? ink near n) l n (g .within l (first-ink ink near n g l q)) q)
-
   label-zero : (c : ℕ) → label ink near n c ≡ 0 → ink c ≡ false
-  label-zero c e = go (which (ink c))
-    where
-      go : (ink c ≡ true) ⊎ (ink c ≡ false) → ink c ≡ false
-      go (inl i) = absurd (omega (arith, e, label-some c i))
-      go (inr i) = i
+  label-zero c e = falsely (ink c) (λ i. omega (arith, e, label-some c i))
 
   -- the first cell of a label leads its group
   first-lead : (c : ℕ) → ink c ≡ true → ((d : ℕ) → d < c → ¬ (label ink near n d ≡ label ink near n c)) → leader ink near n c ≡ c
-  first-lead c i before = go (decLt (leader ink near n c) c)
-    where
-      go : Dec (leader ink near n c < c) → leader ink near n c ≡ c
-      go (yes l) = absurd (before (leader ink near n c) l (label-same ink near n g (leader-linked ink near n g c i)))
-      go (no l) = omega (arith, leader-le ink near n g c)
+  first-lead c i before = leader-self ink near n g c i (λ d b r. before d b (label-same ink near n g r))
 
 -- ---- a picture
 pub labelling : (p : Plane) (w h : ℕ) → Labelling p w h

@@ -1,9 +1,9 @@
 -- The labelling of a grid gives every cell its label (labels-are, labels-many); what it leaves in a longer list (cells-laid).
 -- Assumes nothing.
-use mathlib.Core.Bool.{Bool, true}
+use mathlib.Core.Bool.{Bool}
 use mathlib.Core.List.{List, _++_}
 use mathlib.Core.Path.{_∙_, _≡_, ap, ap₂, sym}
-use Prim.Native.Nat.{_<_, _≤_, _*_, ℕ}
+use Prim.Native.Nat.{_≤_, _*_, ℕ}
 use native.Mathlib.Omega.{arith}
 use lib.ListN.{drop, getD, length, take}
 use lib.Seq.{length-take-le}
@@ -17,13 +17,10 @@ use Rattle.laws.specs.Lent.{laid}
 use Rattle.labels.proofs.Near.{grid}
 use Rattle.labels.specs.Labels.{NearGrid, first?, label, near}
 
-pub ink-within : (ink : ℕ → Bool) (l : List ℕ) → Inked ink l → (c : ℕ) → ink c ≡ true → c < length l
-unfolding Inked
-ink-within ink l h c i = marked-in l c (h c ∙ rw i)
-
 module _ (w h : ℕ) (l : List ℕ) (q : CellGrid l w h) (ink : ℕ → Bool) (marked : Inked ink l) where
   here : NearGrid ink (near w) (h * w)
-  here = grid ink w (h * w) (λ c i. omega (arith, q .size, ink-within ink l marked c i))
+  unfolding Inked
+  here = grid ink w (h * w) (λ c i. omega (arith, q .size, marked-in l c (marked c ∙ rw i)))
 
   ended : Outer ink (near w) (h * w) (h * w) (labelling w h l)
   unfolding labelling Inked

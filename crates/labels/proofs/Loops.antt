@@ -1,13 +1,12 @@
 -- What the labelling's loops keep: the state that their lists show.
---     cells one after the other: Visited, visited-none, visited-then
---     the cells of a row: Row, row-begin, row-turn, row-end
+--     parts of the grid one after the other: Parts, parts-begin, parts-turn, parts-end; one-by-one
 --     the rows of a window: Rows, rows-begin, rows-within, rows-turn, rows-end
---     the cells on the stack: Flow, flow-begin, flow-turn, flow-less, flow-end
+--     the cells on the stack: Flow, flow-begin, flow-safe, flow-inside, flow-less, flow-turn, flow-end
 --     the cells of a grid: Cells, cells-begin, cells-turn, cells-end; group-skip, group-fill
 -- Assumes nothing.
 use mathlib.Core.List.{List, [], _∷_, _++_, List·Memᴰ, List·Memᴰ·head, List·Memᴰ·tail}
 use mathlib.Core.Path.{_∙_, _≡_, ap, refl, subst, sym}
-use Prim.Native.Nat.{_+_, _-_, _*_, _/_, _%_, _<_, _≤_, min, suc, ℕ}
+use Prim.Native.Nat.{_+_, _-_, _*_, _/_, _%_, _<_, _≤_, min, suc, zero, ℕ}
 use native.Mathlib.Nat.{div-lt-iff-lt-mul, mod-lt}
 use native.Mathlib.Numerals.{add-one}
 use native.Mathlib.Omega.{arith}
@@ -15,65 +14,59 @@ use lib.ListN.{getD, length}
 use borrow.Author.Tests.{eq-eqb, ne-eqb}
 use Rattle.laws.specs.Fold.{joined}
 use Rattle.laws.specs.Lists.{range, stackOf}
-use Rattle.laws.proofs.Joined.{joined-more}
+use Rattle.laws.proofs.Joined.{joined-ext, joined-more}
 use Rattle.laws.proofs.Lists.{range-more, stack-length}
 use Rattle.labels.specs.Labelling.{MARK, State, afterVisit, afterVisits, window, popped, afterTop, emptied, next, afterGroup, afterGroups, start, labelling}
 use Rattle.labels.specs.Inner.{marks, Shows, Safe, CellGrid}
 use Rattle.labels.proofs.Window.{row-within}
 use Rattle.labels.proofs.States.{Kept, marks-le, visit-kept, visits-kept, visits-add, emptied-none, shown, shown-shows, safe-begin, safe-on}
 
--- ---- cells visited one after the other, from lists that show a state to lists that show it after these visits
-pub record Visited (v : ℕ) (l₀ st₀ : List ℕ) (k₀ : ℕ) (l st : List ℕ) (k : ℕ) (js : List ℕ) : Type 0 where
+-- ---- parts of the grid visited one after the other
+-- Of the parts from a up to b those before j are visited, from lists that show a state to lists that show it after these visits.
+pub record Parts (part : ℕ → List ℕ) (a b v : ℕ) (l₀ st₀ : List ℕ) (k₀ : ℕ) (l st : List ℕ) (k j : ℕ) : Type 0 where
+  pub from : a ≤ j
+  pub upto : j ≤ b
   pub safe : Safe l st k
   pub size : length l ≡ length l₀
   pub same : length st ≡ length st₀
-  pub shows : (σ : State) → Shows l₀ st₀ k₀ v σ → Shows l st k v (afterVisits js σ)
+  pub shows : (σ : State) → Shows l₀ st₀ k₀ v σ → Shows l st k v (afterVisits (joined (j - a) (λ i. part (a + i))) σ)
 
-visited-none : {v k : ℕ} {l st : List ℕ} → Safe l st k → Visited v l st k l st k []
-unfolding afterVisits
-visited-none s = record { safe = s; size = refl; same = refl; shows = λ σ q. q }
+pub parts-begin : {part : ℕ → List ℕ} {b v k : ℕ} {l st : List ℕ} (a : ℕ) → a ≤ b → Safe l st k → Parts part a b v l st k l st k a
+unfolding afterVisits joined
+parts-begin a h s =
+    let z : a - a ≡ 0 = omega arith in
+    record { from = omega arith; upto = h; safe = s; size = refl; same = refl; shows = λ σ q. rw z q }
 
-visited-then : {v k₀ k k′ : ℕ} {l₀ st₀ l st l′ st′ js : List ℕ} (is : List ℕ) → v < MARK → Visited v l₀ st₀ k₀ l st k js
-    → ((σ : State) → Shows l st k v σ → Shows l′ st′ k′ v (afterVisits is σ)) → length l′ ≡ length l → length st′ ≡ length st
-    → Visited v l₀ st₀ k₀ l′ st′ k′ (js ++ is)
-visited-then {v} {k = k} {l = l} {st} {js = js} is f r step size same = record {
-  safe = safe-on (visits-kept is (shown l st k v) (λ e. omega arith)) (step (shown l st k v) (shown-shows l st k v)) same (r .safe);
-  size = size ∙ r .size;
-  same = same ∙ r .same;
-  shows = λ σ q. rw (visits-add js is σ) (step (afterVisits js σ) (r .shows σ q));
-}
-
--- ---- the cells of a row
-pub record Row (a b v : ℕ) (l₀ st₀ : List ℕ) (k₀ : ℕ) (l st : List ℕ) (k j : ℕ) : Type 0 where
-  pub from : a ≤ j
-  pub upto : j ≤ b
-  pub done : Visited v l₀ st₀ k₀ l st k (range a (j - a))
-
-pub row-begin : {b v k : ℕ} {l st : List ℕ} (a : ℕ) → a ≤ b → Safe l st k → Row a b v l st k l st k a
-row-begin {v = v} {k} {l} {st} a h s =
-    let z : 0 ≡ a - a = omega arith in
-    record { from = omega arith; upto = h; done = subst (λ (m : ℕ). Visited v l st k l st k (range a m)) z (visited-none s) }
-
-pub row-turn : {a b v k₀ k j k′ : ℕ} {l₀ st₀ l st l′ st′ : List ℕ} → v < MARK → Row a b v l₀ st₀ k₀ l st k j → j < b
-    → ((σ : State) → Shows l st k v σ → Shows l′ st′ k′ v (afterVisit j σ)) → length l′ ≡ length l → length st′ ≡ length st
-    → Row a b v l₀ st₀ k₀ l′ st′ k′ (j + 1)
-unfolding afterVisits
-row-turn {a} {v = v} {k₀} {k} {j} {k′} {l₀} {st₀} {l} {st} {l′} {st′} f r h step size same =
-    let x : j ≡ a + (j - a) = omega (arith, r .from) in
-    let y : j - a + 1 ≡ j + 1 - a = omega (arith, r .from) in
-    let more : range a (j - a) ++ j ∷ [] ≡ range a (j + 1 - a) =
-    ap (λ (c : ℕ). range a (j - a) ++ c ∷ []) x ∙ sym (range-more a (j - a)) ∙ ap (range a) y in
+pub parts-turn : {part : ℕ → List ℕ} {a b v k₀ k j k′ : ℕ} {l₀ st₀ l st l′ st′ : List ℕ} → v < MARK
+    → Parts part a b v l₀ st₀ k₀ l st k j → j < b → ((σ : State) → Shows l st k v σ → Shows l′ st′ k′ v (afterVisits (part j) σ))
+    → length l′ ≡ length l → length st′ ≡ length st → Parts part a b v l₀ st₀ k₀ l′ st′ k′ (j + 1)
+parts-turn {part} {a} {v = v} {k = k} {j} {l = l} {st} f r h step size same =
+    let parts : ℕ → List ℕ = λ i. part (a + i) in
+    let at : a + (j - a) ≡ j = omega (arith, r .from) in
+    let kept = visits-kept (part j) (shown l st k v) (λ e. omega arith) in
+    let next : j + 1 - a ≡ j - a + 1 = omega (arith, r .from) in
     record {
       from = omega (arith, r .from);
       upto = omega arith;
-      done = subst (Visited v l₀ st₀ k₀ l′ st′ k′) more (visited-then (j ∷ []) f (r .done) step size same);
+      safe = safe-on kept (step (shown l st k v) (shown-shows l st k v)) same (r .safe);
+      size = size ∙ r .size;
+      same = same ∙ r .same;
+      shows = λ σ q.
+          rw (next, joined-more (j - a) parts, at, visits-add (joined (j - a) parts) (part j) σ)
+          (step (afterVisits (joined (j - a) parts) σ) (r .shows σ q));
     }
 
-pub row-end : {a b v k₀ k j : ℕ} {l₀ st₀ l st : List ℕ} → b ≤ j → Row a b v l₀ st₀ k₀ l st k j
-    → (σ : State) → Shows l₀ st₀ k₀ v σ → Shows l st k v (afterVisits (range a (b - a)) σ)
-row-end {a} {b} {v} {k = k} {j} {l = l} {st} h r σ q =
-    let z : j ≡ b = omega (arith, r .upto) in
-    subst (λ (x : ℕ). Shows l st k v (afterVisits (range a (x - a)) σ)) z (r .done .shows σ q)
+pub parts-end : {part : ℕ → List ℕ} {a b v k₀ k j : ℕ} {l₀ st₀ l st : List ℕ} {js : List ℕ} → b ≤ j → Parts part a b v l₀ st₀ k₀ l st k j
+    → joined (b - a) (λ i. part (a + i)) ≡ js → (σ : State) → Shows l₀ st₀ k₀ v σ → Shows l st k v (afterVisits js σ)
+parts-end {b = b} {j = j} h r e σ q =
+    let z : b ≡ j = omega (arith, r .upto) in
+    rw (← e, z) (r .shows σ q)
+
+-- the cells of a row, one by one
+pub one-by-one : (a n : ℕ) → joined n (λ i. (a + i) ∷ []) ≡ range a n
+unfolding joined
+one-by-one a zero = refl
+one-by-one a (suc n) = ap (λ (js : List ℕ). js ++ (a + n) ∷ []) (one-by-one a n) ∙ sym (rw add-one at (range-more a n))
 
 -- ---- the rows of a window
 pub record Rows (w h i v x₀ x₁ y₀ y₁ : ℕ) (l₀ st₀ : List ℕ) (k₀ : ℕ) (l st : List ℕ) (k g : ℕ) : Type 0 where
@@ -81,24 +74,17 @@ pub record Rows (w h i v x₀ x₁ y₀ y₁ : ℕ) (l₀ st₀ : List ℕ) (k�
   pub right : x₁ ≡ min (i % w + 4) w
   pub top : y₀ ≡ i / w - 3
   pub bottom : y₁ ≡ min (i / w + 4) h
-  pub from : y₀ ≤ g
-  pub upto : g ≤ y₁
-  pub done : Visited v l₀ st₀ k₀ l st k (joined (g - y₀) (λ r. range ((y₀ + r) * w + x₀) (x₁ - x₀)))
+  pub done : Parts (λ r. range (r * w + x₀) (r * w + x₁ - (r * w + x₀))) y₀ y₁ v l₀ st₀ k₀ l st k g
 
 pub rows-begin : {w h i v x₀ x₁ y₀ y₁ k : ℕ} {l st : List ℕ} → x₀ ≡ i % w - 3 → x₁ ≡ min (i % w + 4) w → y₀ ≡ i / w - 3
     → y₁ ≡ min (i / w + 4) h → 0 < w → i < h * w → Safe l st k → Rows w h i v x₀ x₁ y₀ y₁ l st k l st k y₀
-unfolding joined
-rows-begin {w} {h} {i} {v} {x₀} {x₁} {y₀} {k = k} {l} {st} left right top bottom pos inside s =
-    let z : 0 ≡ y₀ - y₀ = omega arith in
-    record {
-      left = left;
-      right = right;
-      top = top;
-      bottom = bottom;
-      from = omega arith;
-      upto = omega (arith, div-lt-iff-lt-mul pos .1 inside);
-      done = subst (λ (m : ℕ). Visited v l st k l st k (joined m (λ r. range ((y₀ + r) * w + x₀) (x₁ - x₀)))) z (visited-none s);
-    }
+rows-begin {y₀ = y₀} left right top bottom pos inside s = record {
+  left = left;
+  right = right;
+  top = top;
+  bottom = bottom;
+  done = parts-begin y₀ (omega (arith, div-lt-iff-lt-mul pos .1 inside)) s;
+}
 
 -- a row of the window lies within the grid
 pub rows-within : {w h i v x₀ x₁ y₀ y₁ k₀ k g : ℕ} {l₀ st₀ l st : List ℕ} → 0 < w → Rows w h i v x₀ x₁ y₀ y₁ l₀ st₀ k₀ l st k g → g < y₁
@@ -109,34 +95,21 @@ rows-within {w} {h} {i} {x₁ = x₁} {g = g} pos r b =
 pub rows-turn : {w h i v x₀ x₁ y₀ y₁ k₀ k g k′ : ℕ} {l₀ st₀ l st l′ st′ : List ℕ} → v < MARK → Rows w h i v x₀ x₁ y₀ y₁ l₀ st₀ k₀ l st k g
     → g < y₁ → ((σ : State) → Shows l st k v σ → Shows l′ st′ k′ v (afterVisits (range (g * w + x₀) (g * w + x₁ - (g * w + x₀))) σ))
     → length l′ ≡ length l → length st′ ≡ length st → Rows w h i v x₀ x₁ y₀ y₁ l₀ st₀ k₀ l′ st′ k′ (g + 1)
-rows-turn {w} {h} {i} {v} {x₀} {x₁} {y₀} {y₁} {k₀} {k} {g} {k′} {l₀} {st₀} {l} {st} {l′} {st′} f r b step size same =
-    let x : g ≡ y₀ + (g - y₀) = omega (arith, r .from) in
-    let y : g * w + x₁ - (g * w + x₀) ≡ x₁ - x₀ = omega arith in
-    let z : g - y₀ + 1 ≡ g + 1 - y₀ = omega (arith, r .from) in
-    let row : ℕ → List ℕ = λ r. range ((y₀ + r) * w + x₀) (x₁ - x₀) in
-    let more : joined (g - y₀) row ++ range (g * w + x₀) (g * w + x₁ - (g * w + x₀)) ≡ joined (g + 1 - y₀) row =
-    ap (λ (m : ℕ). joined (g - y₀) row ++ range (g * w + x₀) m) y
-    ∙ ap (λ (m : ℕ). joined (g - y₀) row ++ range (m * w + x₀) (x₁ - x₀)) x
-    ∙ sym (joined-more (g - y₀) row)
-    ∙ ap (λ (m : ℕ). joined m row) z in
-    record {
-      left = r .left;
-      right = r .right;
-      top = r .top;
-      bottom = r .bottom;
-      from = omega (arith, r .from);
-      upto = omega arith;
-      done = subst (Visited v l₀ st₀ k₀ l′ st′ k′) more
-          (visited-then (range (g * w + x₀) (g * w + x₁ - (g * w + x₀))) f (r .done) step size same);
-    }
+rows-turn f r b step size same = record {
+  left = r .left;
+  right = r .right;
+  top = r .top;
+  bottom = r .bottom;
+  done = parts-turn f (r .done) b step size same;
+}
 
 pub rows-end : {w h i v x₀ x₁ y₀ y₁ k₀ k g : ℕ} {l₀ st₀ l st : List ℕ} → y₁ ≤ g → Rows w h i v x₀ x₁ y₀ y₁ l₀ st₀ k₀ l st k g
     → (σ : State) → Shows l₀ st₀ k₀ v σ → Shows l st k v (afterVisits (window w h i) σ)
 unfolding window
-rows-end {w} {h} {i} {v} {x₀} {x₁} {y₀} {y₁} {k = k} {g} {l = l} {st} b r σ q =
-    let z : g ≡ y₁ = omega (arith, r .upto) in
-    let whole : joined (g - y₀) (λ r. range ((y₀ + r) * w + x₀) (x₁ - x₀)) ≡ window w h i = rw (z, r .left, r .right, r .top, r .bottom) in
-    subst (λ (js : List ℕ). Shows l st k v (afterVisits js σ)) whole (r .done .shows σ q)
+rows-end {w} {x₀ = x₀} {x₁} {y₀} {y₁} b r =
+    let wide : (a : ℕ) → a + x₁ - (a + x₀) ≡ x₁ - x₀ = λ a. omega arith in
+    parts-end b (r .done)
+    (joined-ext (y₁ - y₀) _ _ (λ g l. ap (range ((y₀ + g) * w + x₀)) (wide ((y₀ + g) * w))) ∙ rw (r .left, r .right, r .top, r .bottom))
 
 -- ---- the cells on the stack
 pub record Flow (w h v : ℕ) (l₀ st₀ : List ℕ) (k₀ : ℕ) (l st : List ℕ) (k : ℕ) : Type 0 where
@@ -179,7 +152,8 @@ flow-safe {k = k} {l = l} {st} r b = record {
 
 -- the cell on top is a cell
 pub flow-inside : {w h v k₀ k : ℕ} {l₀ st₀ l st : List ℕ} → Flow w h v l₀ st₀ k₀ l st k → 0 < k → getD st (k - 1) 0 < length l
-flow-inside {k = k} {st = st} r b = r .safe .inside (getD st (k - 1) 0) (subst (List·Memᴰ (getD st (k - 1) 0)) (sym (top-of st k b)) (List·Memᴰ·head refl))
+flow-inside {k = k} {st = st} r b =
+    r .safe .inside (getD st (k - 1) 0) (subst (List·Memᴰ (getD st (k - 1) 0)) (sym (top-of st k b)) (List·Memᴰ·head refl))
 
 module _ {w h v k₀ k k′ : ℕ} {l₀ st₀ l st l′ st′ : List ℕ} (f : v < MARK) (r : Flow w h v l₀ st₀ k₀ l st k) (b : 0 < k)
     (step : (σ : State) → Shows l st (k - 1) v σ → Shows l′ st′ k′ v (afterVisits (window w h (getD st (k - 1) 0)) σ)) where
@@ -215,7 +189,9 @@ module _ {w h v k₀ k k′ : ℕ} {l₀ st₀ l st l′ st′ : List ℕ} (f : 
           let z : r .left ≡ suc (r .left - 1) = omega (arith, r .few) in (
             afterVisits (window w h (getD st (k - 1) 0)) (popped (stackOf st (k - 1)) τ),
             step (popped (stackOf st (k - 1)) τ) (record { given = s .given; held = s .held; stack = refl }),
-            e ∙ ap (λ (t : ℕ). emptied (window w h) t τ) z ∙ ap (λ (x : List ℕ). emptied (window w h) (r .left - 1) (afterTop (window w h) x τ)) top,
+            e
+                ∙ ap (λ (t : ℕ). emptied (window w h) t τ) z
+                ∙ ap (λ (x : List ℕ). emptied (window w h) (r .left - 1) (afterTop (window w h) x τ)) top,
           )
 
 pub flow-end : {w h v k₀ k : ℕ} {l₀ st₀ l st : List ℕ} → k ≡ 0 → Flow w h v l₀ st₀ k₀ l st k

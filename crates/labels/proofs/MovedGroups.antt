@@ -8,7 +8,7 @@ use native.Mathlib.Nat.{div-add-mod', mod-lt, div-lt-iff-lt-mul}
 use lib.Arith.{digits-div, digits-mod, digits-lt}
 use Rattle.labels.specs.Labels.{Linked, here, step, near, close, NearGrid, label}
 use Rattle.labels.specs.Cells.{cell}
-use Rattle.labels.proofs.Near.{near-of, close-of, close-left, close-right}
+use Rattle.labels.proofs.Near.{near-of, close-of, close-both}
 use Rattle.labels.proofs.Graph.{linked-right, label-same, label-linked}
 
 -- ---- any map of cells that keeps ink and nearness
@@ -45,8 +45,8 @@ undo {f = f} m = record {
 }
 
 -- The groups are the moved groups.
-pub moved-groups : {ink : ℕ → Bool} {near : ℕ → ℕ → Bool} {ink′ : ℕ → Bool} {near′ : ℕ → ℕ → Bool} {f : ℕ → ℕ} (n n′ : ℕ) → NearGrid ink near n
-    → NearGrid ink′ near′ n′ → Carry ink near ink′ near′ f
+pub moved-groups : {ink : ℕ → Bool} {near : ℕ → ℕ → Bool} {ink′ : ℕ → Bool} {near′ : ℕ → ℕ → Bool} {f : ℕ → ℕ} (n n′ : ℕ)
+    → NearGrid ink near n → NearGrid ink′ near′ n′ → Carry ink near ink′ near′ f
     → (a b : ℕ) → ink a ≡ true → ink b ≡ true
     → (label ink near n a ≡ label ink near n b) ↔ (label ink′ near′ n′ (f a) ≡ label ink′ near′ n′ (f b))
 moved-groups {ink} {near} {ink′} {near′} {f} n n′ g g′ m a b i j = (to, from)
@@ -79,7 +79,7 @@ cell-lt w h x y p q = digits-lt q p
 
 -- a grid whose columns and rows are those of another, changed each by a map that keeps distances
 pub flip-close : (h y z : ℕ) → y < h → z < h → close y z ≡ true → close (h - 1 - y) (h - 1 - z) ≡ true
-flip-close h y z p q e = close-of _ _ (omega (arith, close-right y z e)) (omega (arith, close-left y z e))
+flip-close h y z p q e = let c = close-both y z e in close-of _ _ (omega (arith, c)) (omega (arith, c))
 
 module _ (w h a : ℕ) (b : a < h * w) where
   pub column-lt : 0 < w → a % w < w

@@ -7,7 +7,7 @@ use Rattle.laws.specs.Move.{Move, still, flipped, turned, sidesOf, wideOf, high
 use Rattle.laws.proofs.Moves.{place-within, backOf, back-within, back-place, place-back}
 use Rattle.labels.specs.Labels.{near, close}
 use Rattle.labels.specs.Cells.{cell}
-use Rattle.labels.proofs.Near.{near-columns, near-rows}
+use Rattle.labels.proofs.Near.{near-both}
 use Rattle.labels.proofs.MovedGroups.{Carry, cell-column, cell-row, cell-of, cell-lt, column-lt, row-lt, flip-close, near-cells}
 
 -- ---- nearness
@@ -98,13 +98,15 @@ module _ (m : Move) (a b a′ b′ : ℕ) (ea : a′ ≡ wideOf m a b) (eb : b�
         let ly = row-lt a b c (inside c i) pos in
         let lu = column-lt a b d (inside d j) pos in
         let lv = row-lt a b d (inside d j) pos in
-        let k = place-close m a b (c % a) (c / a) (d % a) (d / a) lx ly lu lv (near-columns a c d n) (near-rows a c d n) in
+        let q = near-both a c d n in
+        let k = place-close m a b (c % a) (c / a) (d % a) (d / a) lx ly lu lv (q .0) (q .1) in
         near-cells a′ _ _ _ _ (within′ _ _ lx ly) (within′ _ _ lu lv) (k .0) (k .1);
     near-back = λ c d i j n.
         let lx = col′ c (inside′ c i) in
         let ly = row′ c (inside′ c i) in
         let lu = col′ d (inside′ d j) in
         let lv = row′ d (inside′ d j) in
-        let k = back-close m a b (c % a′) (c / a′) (d % a′) (d / a′) lx ly lu lv (near-columns a′ c d n) (near-rows a′ c d n) in
+        let q = near-both a′ c d n in
+        let k = back-close m a b (c % a′) (c / a′) (d % a′) (d / a′) lx ly lu lv (q .0) (q .1) in
         near-cells a _ _ _ _ (back-within m a b (c % a′) (c / a′) lx ly .0) (back-within m a b (d % a′) (d / a′) lu lv .0) (k .0) (k .1);
   }

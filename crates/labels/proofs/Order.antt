@@ -1,22 +1,21 @@
--- Under a move the groups are numbered anew: each keeps its size, and as many groups of 16 cells and more are larger than it.
---     cellOf, sized, larger, cell-of, renumber, renumber-is, renumber-lt, renumber-one, moved-sized, larger-le, renumber-back,
---     moved-larger
+-- Under a move the groups are numbered anew, and each keeps its size.
+--     cellOf, sized, cell-of, renumber, renumber-is, renumber-lt, moved-sized, renumber-back
 -- Assumes nothing.
 use mathlib.Core.Path.{_≡_, sym, _∙_, ap}
 use mathlib.Core.Logic.{_⊎_, inl, inr, ⊎-elim}
 use mathlib.Core.Bool.{Bool, true, false, _&&_}
-use Prim.Native.Nat.{ℕ, zero, suc, _-_, _<_, _≤_}
+use Prim.Native.Nat.{ℕ, zero, suc, _-_, _<_}
 use native.Mathlib.Omega.{arith}
 use native.Mathlib.Decide.{decLt}
-use lib.Dec.{eqb, leb, ltb}
+use lib.Dec.{eqb}
 use borrow.Author.Tests.{eq-eqb, eqb-true}
 use Rattle.laws.specs.Count.{count, least}
-use Rattle.laws.proofs.Counts.{count-yes, count-no, least-before, least-end, count-into, count-step}
+use Rattle.laws.proofs.Counts.{count-yes, count-no, least-before, least-end}
 use Rattle.laws.proofs.Bools.{which, clash, both, and-left, and-right}
 use Rattle.labels.proofs.MovedGroups.{Carry, undo, moved-groups}
 use Rattle.labels.proofs.Sizes.{moved-size}
-use Rattle.labels.specs.Labels.{first?, label, NearGrid, leader}
-use Rattle.labels.proofs.Graph.{first-ink, labelled, label-ink, first-leader}
+use Rattle.labels.specs.Labels.{first?, label, NearGrid}
+use Rattle.labels.proofs.Graph.{first-ink, label-first, label-ink, label-most}
 
 -- the one that meets `p` and has i of them before it
 select : (p : ℕ → Bool) (k i : ℕ) → i < count p k → (c : ℕ) × (c < k) × (p c ≡ true) × (count p c ≡ i)
@@ -37,13 +36,9 @@ select p (suc k) i h = go (select p k i) (which (p k))
 unfoldable pub cellOf : (ℕ → Bool) → (ℕ → ℕ → Bool) → ℕ → ℕ → ℕ
 cellOf ink near n i = least (λ c. first? ink near n c && eqb (count (first? ink near n) c) i) n
 
--- How many cells have the label i + 1; how many groups of 16 and more are larger.
+-- How many cells have the label i + 1.
 unfoldable pub sized : (ℕ → Bool) → (ℕ → ℕ → Bool) → ℕ → ℕ → ℕ
 sized ink near n i = count (λ c. eqb (label ink near n c) (suc i)) n
-
-unfoldable pub larger : (ℕ → Bool) → (ℕ → ℕ → Bool) → ℕ → ℕ → ℕ
-larger ink near n i =
-    count (λ j. leb 16 (sized ink near n j) && ltb (sized ink near n i) (sized ink near n j)) (count (first? ink near n) n)
 
 module _ (ink : ℕ → Bool) (near : ℕ → ℕ → Bool) (n : ℕ) (g : NearGrid ink near n) where
   pub cell-of : (i : ℕ) → i < count (first? ink near n) n
@@ -54,7 +49,7 @@ module _ (ink : ℕ → Bool) (near : ℕ → ℕ → Bool) (n : ℕ) (g : NearG
       let t : p z ≡ true = ⊎-elim (λ x. x) (λ x. absurd (omega (arith, below, least-end p n x))) (which (p z)) in
       let f = and-left (first? ink near n z) (eqb (count (first? ink near n) z) i) t in
       let e = eqb-true (count (first? ink near n) z) i (and-right (first? ink near n z) (eqb (count (first? ink near n) z) i) t) in
-      (first-ink ink near n g z f, labelled ink near n g .counted z f ∙ ap suc e)
+      (first-ink ink near n g z f, label-first ink near n g z f ∙ ap suc e)
     where
       p : ℕ → Bool
       p = λ c. first? ink near n c && eqb (count (first? ink near n) c) i
@@ -87,22 +82,7 @@ module _ {ink : ℕ → Bool} {near : ℕ → ℕ → Bool} {ink′ : ℕ → Bo
   renumber-lt i h =
       let c = f (cellOf ink near n i) in
       let j = m .ink-to (cellOf ink near n i) (cell-of ink near n g i h .0) in
-      let q = first-leader ink′ near′ n′ g′ c j in
-      let l = leader ink′ near′ n′ c in
-      omega (
-        arith,
-        renumber-is i h,
-        label-ink ink′ near′ n′ g′ c j,
-        count-step (first? ink′ near′ n′) l n′ (g′ .within l (first-ink ink′ near′ n′ g′ l q)) q,
-      )
-
-  pub renumber-one : (i j : ℕ) → i < count (first? ink near n) n → j < count (first? ink near n) n
-      → renumber ink near n ink′ near′ n′ f i ≡ renumber ink near n ink′ near′ n′ f j → i ≡ j
-  renumber-one i j h k e =
-      let a = cell-of ink near n g i h in
-      let b = cell-of ink near n g j k in
-      let s = sym (renumber-is i h) ∙ (ap suc e ∙ renumber-is j k) in
-      omega (arith, a .1, b .1, moved-groups n n′ g g′ m (cellOf ink near n i) (cellOf ink near n j) (a .0) (b .0) .1 s)
+      omega (arith, renumber-is i h, label-ink ink′ near′ n′ g′ c j, label-most ink′ near′ n′ g′ c j)
 
   -- A group keeps its size.
   pub moved-sized : (i : ℕ) → i < count (first? ink near n) n
@@ -112,17 +92,6 @@ module _ {ink : ℕ → Bool} {near : ℕ → ℕ → Bool} {ink′ : ℕ → Bo
       let a = cell-of ink near n g i h in
       ap (λ (x : ℕ). count (λ c. eqb (label ink′ near′ n′ c) x) n′) (renumber-is i h)
       ∙ (sym (moved-size n n′ g g′ m (cellOf ink near n i) (a .0)) ∙ ap (λ (x : ℕ). count (λ c. eqb (label ink near n c) x) n) (a .1))
-
-  pub larger-le : (i : ℕ) → i < count (first? ink near n) n
-      → larger ink near n i ≤ larger ink′ near′ n′ (renumber ink near n ink′ near′ n′ f i)
-  unfolding larger
-  larger-le i h =
-      count-into (λ j. leb 16 (sized ink near n j) && ltb (sized ink near n i) (sized ink near n j)) (count (first? ink near n) n)
-      (λ j. leb 16 (sized ink′ near′ n′ j) && ltb (sized ink′ near′ n′ (renumber ink near n ink′ near′ n′ f i)) (sized ink′ near′ n′ j))
-      (count (first? ink′ near′ n′) n′)
-      (renumber ink near n ink′ near′ n′ f)
-      (λ j k t. (renumber-lt j k, rw (moved-sized i h, moved-sized j k) t))
-      (λ a b x y t u e. renumber-one a b x y e)
 
 module _ {ink : ℕ → Bool} {near : ℕ → ℕ → Bool} {ink′ : ℕ → Bool} {near′ : ℕ → ℕ → Bool} {f : ℕ → ℕ} (n n′ : ℕ) (g : NearGrid ink near n)
     (g′ : NearGrid ink′ near′ n′) (m : Carry ink near ink′ near′ f) where
@@ -139,12 +108,3 @@ module _ {ink : ℕ → Bool} {near : ℕ → ℕ → Bool} {ink′ : ℕ → Bo
       let s : label ink′ near′ n′ c′ ≡ label ink′ near′ n′ (f c) = a′ .1 ∙ renumber-is n n′ g g′ m i h in
       let t = moved-groups n′ n g′ g (undo m) c′ (f c) (a′ .0) (m .ink-to c (a .0)) .0 s in
       omega (arith, renumber-is n′ n g′ g (undo m) i′ h′, t, ap (label ink near n) (m .again c (a .0)), a .1)
-
-  -- As many groups are larger.
-  pub moved-larger : (i : ℕ) → i < count (first? ink near n) n
-      → larger ink′ near′ n′ (renumber ink near n ink′ near′ n′ f i) ≡ larger ink near n i
-  moved-larger i h =
-      let h′ = renumber-lt n n′ g g′ m i h in
-      let p = larger-le n n′ g g′ m i h in
-      let q = larger-le n′ n g′ g (undo m) (renumber ink near n ink′ near′ n′ f i) h′ in
-      omega (arith, p, q, ap (larger ink near n) (renumber-back i h))

@@ -1,9 +1,9 @@
 -- Ink cells and groups of a moved picture. `p′` is any plane that has the moved pixels within the moved sides.
---     cells8-16, wide-cells, high-cells, cell-ink-of, ink-inside, grid-of, picture-carry, groups-of
+--     wide-cells, high-cells, cell-ink-of, ink-inside, ink-outside, grid-of, picture-carry, groups-of
 -- Assumes nothing.
 use mathlib.Core.Path.{_≡_, refl, sym, ap, ap₂, _∙_}
 use mathlib.Core.Logic.{_↔_}
-use mathlib.Core.Bool.{true}
+use mathlib.Core.Bool.{false, true}
 use Prim.Native.Nat.{ℕ, _+_, _-_, _*_, _/_, _%_, _≤_, _<_}
 use native.Mathlib.Omega.{arith}
 use native.Mathlib.Nat.{add-comm, add-assoc}
@@ -12,7 +12,7 @@ use borrow.Author.Tests.{lt-ltb, ltb-true}
 use Rattle.laws.specs.Fold.{bit}
 use Rattle.laws.specs.Plane.{Plane, Alike, box}
 use Rattle.laws.specs.Move.{Move, still, flipped, turned, wideOf, highOf, moved, placeOf, mirror, transpose}
-use Rattle.laws.proofs.Bools.{and-left}
+use Rattle.laws.proofs.Bools.{and-left, falsely}
 use Rattle.laws.proofs.Planes.{box-ext}
 use Rattle.laws.proofs.Boxes.{box-mirror, box-transpose}
 use Rattle.laws.proofs.Moves.{place-within, sides-times, alike-of}
@@ -50,9 +50,6 @@ cells-box (turned m) A B q x y lx ly =
 
     in8 : (h y : ℕ) → y < h → 8 * (h - 1 - y) + 8 ≤ 8 * h
     in8 h y l = omega arith
-
-pub cells8-16 : (W : ℕ) → cells8 (16 * W) ≡ 2 * W
-cells8-16 W = omega arith
 
 cells8-8 : (A : ℕ) → cells8 (8 * A) ≡ A
 cells8-8 A = omega arith
@@ -142,6 +139,9 @@ module _ (m : Move) (W H : ℕ) (p p′ : Plane)
 pub ink-inside : (p : Plane) (w h c : ℕ) → inkCell p w h c ≡ true → c < cellsOf w h
 unfolding inkCell
 ink-inside p w h c t = ltb-true c (cellsOf w h) (and-left (ltb c (cellsOf w h)) (leb 4 (inkPixels p w h (c % cells8 w) (c / cells8 w))) t)
+
+pub ink-outside : (p : Plane) (w h c : ℕ) → (c < cellsOf w h → ⊥) → inkCell p w h c ≡ false
+ink-outside p w h c b = falsely (inkCell p w h c) (λ e. b (ink-inside p w h c e))
 
 pub grid-of : (p : Plane) (w h : ℕ) → NearGrid (inkCell p w h) (near (cells8 w)) (cellsOf w h)
 grid-of p w h = grid (inkCell p w h) (cells8 w) (cellsOf w h) (ink-inside p w h)

@@ -3,27 +3,24 @@
 --     the labelling is a way: groups-reached
 --     a picture: picture-grid, marked-inked, picture-pushes
 -- Assumes nothing.
-use mathlib.Core.Bool.{cond, false}
+use mathlib.Core.Bool.{cond}
 use mathlib.Core.List.{List, [], _∷_, List·Memᴰ, List·Memᴰ·head, List·Memᴰ·tail}
 use mathlib.Core.Path.{_∙_, _≡_, ap, refl, sym}
 use Prim.Native.Nat.{_+_, _<_, _≤_, suc, zero, ℕ}
-use native.Mathlib.Decide.{decLt}
-use native.Mathlib.Nat.{mul-le-mul}
 use native.Mathlib.Omega.{arith}
-use lib.ListN.{List·getD-eq-default, getD, length}
+use lib.ListN.{getD, length}
 use lib.Seq.{getD-set-same}
-use Rattle.laws.specs.Fold.{tab}
 use Rattle.laws.specs.Lists.{NoDup}
-use Rattle.laws.proofs.Bools.{falsely}
-use Rattle.laws.proofs.Folds.{getD-tab, length-tab}
+use Rattle.laws.proofs.Folds.{length-tab}
 use Rattle.laws.specs.Plane.{Plane}
 use Rattle.labels.specs.Cells.{cells8, cellsOf, inkCell, cellLabel, groupsOf}
 use Rattle.labels.specs.Labelling.{MARK, State, push, afterVisit, afterVisits, afterTop, emptied, next, afterGroup, afterGroups, start, labelling, window, markedCells, Reached, begun, labelled, visited, taken}
 use Rattle.labels.specs.Inner.{marks, Inked, CellGrid}
 use Rattle.labels.specs.Claims.{EachOnce, Pushes}
 use Rattle.labels.proofs.States.{Kept, marks-le, marks-set, marked-in, visit-open, visit-by, group-by, visit-kept, emptied-kept}
+use Rattle.labels.proofs.InkCells.{cells-few, tab-all}
 use Rattle.labels.proofs.Labellings.{labels-are, labels-many}
-use Rattle.labels.proofs.Pictures.{ink-inside}
+use Rattle.labels.proofs.Pictures.{ink-outside}
 
 -- What a state on the way keeps: a pushed cell is no mark any more; with the marks that are left, as many were pushed as there were marks.
 pub record Pushing (l : List ℕ) (σ : State) : Type 0 where
@@ -112,21 +109,13 @@ pub picture-grid : (p : Plane) (w h : ℕ) → 1 ≤ w → w ≤ 4096 → h ≤ 
 unfolding markedCells
 picture-grid p w h low wide high = record {
   size = length-tab (cellsOf w h) (λ c. cond (inkCell p w h c) MARK 0);
-  few = omega (arith, mul-le-mul {n₁ = cells8 h} {m₁ = cells8 w} {n₂ = 512} {m₂ = 512} (omega arith) (omega arith));
+  few = cells-few wide high;
   some = omega arith;
 }
 
 pub marked-inked : (p : Plane) (w h : ℕ) → Inked (inkCell p w h) (markedCells p w h)
 unfolding Inked markedCells
-marked-inked p w h c = go (decLt c (cellsOf w h))
-  where
-    go : Dec (c < cellsOf w h) → getD (tab (cellsOf w h) (λ c. cond (inkCell p w h c) MARK 0)) c 0 ≡ cond (inkCell p w h c) MARK 0
-    go (yes b) = getD-tab (cellsOf w h) (λ c. cond (inkCell p w h c) MARK 0) c 0 b
-    go (no b) =
-        let none : inkCell p w h c ≡ false = falsely (inkCell p w h c) (λ e. b (ink-inside p w h c e)) in
-        List·getD-eq-default (tab (cellsOf w h) (λ c. cond (inkCell p w h c) MARK 0)) 0
-        (rw (length-tab (cellsOf w h) (λ c. cond (inkCell p w h c) MARK 0)) (omega arith))
-        ∙ rw none
+marked-inked p w h = tab-all (cellsOf w h) (λ c. cond (inkCell p w h c) MARK 0) (λ c b. rw (ink-outside p w h c b))
 
 pub picture-pushes : (p : Plane) (w h : ℕ) → 1 ≤ w → w ≤ 4096 → h ≤ 4096 → Pushes p w h
 unfolding cellLabel groupsOf labelling

@@ -2,7 +2,7 @@
 use mathlib.Core.Path.{_≡_, sym, _∙_, ap}
 use mathlib.Core.Logic.{⊎-elim}
 use mathlib.Core.Bool.{Bool, true}
-use Prim.Native.Nat.{ℕ, suc, _≤_}
+use Prim.Native.Nat.{ℕ, _≤_}
 use native.Mathlib.Omega.{arith}
 use lib.Dec.{eqb}
 use borrow.Author.Tests.{eq-eqb, eqb-true}
@@ -10,8 +10,8 @@ use Rattle.laws.proofs.Counts.{count-into}
 use Rattle.laws.specs.Count.{count}
 use Rattle.laws.proofs.Bools.{which}
 use Rattle.labels.proofs.MovedGroups.{Carry, undo, moved-groups}
-use Rattle.labels.specs.Labels.{label, NearGrid, first?, leader}
-use Rattle.labels.proofs.Graph.{label-none, label-ink, first-ink, first-leader, label-linked, first-leads, leader-same}
+use Rattle.labels.specs.Labels.{label, NearGrid}
+use Rattle.labels.proofs.Graph.{label-none, label-ink}
 
 -- the number of cells with the label of `a`
 abbrev pub size : (ℕ → Bool) → (ℕ → ℕ → Bool) → ℕ → ℕ → ℕ
@@ -46,34 +46,4 @@ module _ {ink : ℕ → Bool} {near : ℕ → ℕ → Bool} {ink′ : ℕ → Bo
   moved-size a i =
       let p = size-le n n′ g g′ m a i in
       let q = rw (m .again a i) at (size-le n′ n g′ g (undo m) (f a) (m .ink-to a i)) in
-      omega arith
-
-module _ {ink : ℕ → Bool} {near : ℕ → ℕ → Bool} {ink′ : ℕ → Bool} {near′ : ℕ → ℕ → Bool} {f : ℕ → ℕ} (n n′ : ℕ) (g : NearGrid ink near n)
-    (g′ : NearGrid ink′ near′ n′) (m : Carry ink near ink′ near′ f) where
-  groups-le : count (first? ink near n) n ≤ count (first? ink′ near′ n′) n′
-  groups-le =
-      count-into (first? ink near n) n (first? ink′ near′ n′) n′ (λ c. leader ink′ near′ n′ (f c))
-      (λ c b t.
-      let i = m .ink-to c (first-ink ink near n g c t) in
-      let q = first-leader ink′ near′ n′ g′ (f c) i in
-      (g′ .within (leader ink′ near′ n′ (f c)) (first-ink ink′ near′ n′ g′ (leader ink′ near′ n′ (f c)) q), q))
-      (λ a b x y. one a b)
-    where
-      one : (a b : ℕ) → first? ink near n a ≡ true → first? ink near n b ≡ true → leader ink′ near′ n′ (f a) ≡ leader ink′ near′ n′ (f b)
-          → a ≡ b
-      one a b t u e =
-          let i = first-ink ink near n g a t in
-          let j = first-ink ink near n g b u in
-          let y = ap (λ (d : ℕ). suc (count (first? ink′ near′ n′) d)) e in
-          let l = label-ink ink′ near′ n′ g′ (f a) (m .ink-to a i) ∙ (y ∙ sym (label-ink ink′ near′ n′ g′ (f b) (m .ink-to b j))) in
-          let r = label-linked ink near n g a b i j (moved-groups n n′ g g′ m a b i j .1 l) in
-          sym (first-leads ink near n g a t) ∙ (leader-same ink near n g r ∙ first-leads ink near n g b u)
-
-module _ {ink : ℕ → Bool} {near : ℕ → ℕ → Bool} {ink′ : ℕ → Bool} {near′ : ℕ → ℕ → Bool} {f : ℕ → ℕ} (n n′ : ℕ) (g : NearGrid ink near n)
-    (g′ : NearGrid ink′ near′ n′) (m : Carry ink near ink′ near′ f) where
-  -- There are as many groups.
-  pub moved-count : count (first? ink near n) n ≡ count (first? ink′ near′ n′) n′
-  moved-count =
-      let p = groups-le n n′ g g′ m in
-      let q = groups-le n′ n g′ g (undo m) in
       omega arith

@@ -64,8 +64,8 @@ pub visit-passed : (j : ℕ) (σ : State) → (getD (σ .held) j 0 ≡ MARK → 
 unfolding afterVisit
 visit-passed j σ e = rw (ne-eqb (getD (σ .held) j 0) MARK e)
 
-pub visit-by : (P : State → Type 0) (j : ℕ) (σ : State) → (getD (σ .held) j 0 ≡ MARK → P (push j σ)) → ((getD (σ .held) j 0 ≡ MARK → ⊥) → P σ)
-    → P (afterVisit j σ)
+pub visit-by : (P : State → Type 0) (j : ℕ) (σ : State) → (getD (σ .held) j 0 ≡ MARK → P (push j σ))
+    → ((getD (σ .held) j 0 ≡ MARK → ⊥) → P σ) → P (afterVisit j σ)
 visit-by P j σ open′ else′ = go (ℕ-discrete (getD (σ .held) j 0) MARK)
   where
     go : Dec (getD (σ .held) j 0 ≡ MARK) → P (afterVisit j σ)
@@ -150,7 +150,8 @@ visits-kept (j ∷ js) σ f =
     let k = visit-kept σ f j in
     kept-then k (visits-kept js (afterVisit j σ) (λ e. f (sym (k .given) ∙ e)))
 
-pub visits-done : (js : List ℕ) (σ : State) → (σ .given ≡ MARK → ⊥) → (j : ℕ) → List·Memᴰ j js → getD (afterVisits js σ .held) j 0 ≡ MARK → ⊥
+pub visits-done : (js : List ℕ) (σ : State) → (σ .given ≡ MARK → ⊥) → (j : ℕ) → List·Memᴰ j js
+    → getD (afterVisits js σ .held) j 0 ≡ MARK → ⊥
 unfolding afterVisits
 visits-done [] σ f j t m = elim t [ ]
 visits-done (i ∷ js) σ f j (List·Memᴰ·head e) m =
@@ -243,5 +244,6 @@ shows-push {l} {st} {k} {v} {σ} j s m h =
       stack = ap (λ (x : List ℕ). j ∷ x) (s .stack) ∙ sym (stack-push st k j h);
     })
 
-pub shows-pass : {l st : List ℕ} {k v : ℕ} {σ : State} (j : ℕ) → Shows l st k v σ → (getD l j 0 ≡ MARK → ⊥) → Shows l st k v (afterVisit j σ)
+pub shows-pass : {l st : List ℕ} {k v : ℕ} {σ : State} (j : ℕ) → Shows l st k v σ → (getD l j 0 ≡ MARK → ⊥)
+    → Shows l st k v (afterVisit j σ)
 shows-pass {l} {σ = σ} j s m = rw (visit-passed j σ (λ e. m (sym (ap (λ (x : List ℕ). getD x j 0) (s .held)) ∙ e))) s

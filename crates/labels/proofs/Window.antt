@@ -12,7 +12,7 @@ use Rattle.laws.proofs.Lists.{in-range, range-has}
 use Rattle.laws.proofs.Joined.{joined-mem, joined-has}
 use Rattle.labels.specs.Labelling.{window}
 use Rattle.labels.proofs.FillLaws.{Around}
-use Rattle.labels.proofs.Near.{close-left, close-of, close-right, near-columns, near-of, near-rows}
+use Rattle.labels.proofs.Near.{close-both, close-of, near-both, near-of}
 use Rattle.labels.specs.Labels.{near}
 
 -- a row of the window lies within the grid
@@ -47,15 +47,15 @@ module _ (w h c : ℕ) (pos : 0 < w) where
       let small : j - g * w < w = omega (arith, b .0, b .1) in
       let column : j % w ≡ j - g * w = ap (λ (y : ℕ). y % w) at ∙ digits-mod g small in
       let line : j / w ≡ g = ap (λ (y : ℕ). y / w) at ∙ digits-div g small in
-      near-of w c j (rw column (close-of _ _ (omega (arith, b)) (omega (arith, b)))) (rw line (close-of _ _ (omega (arith, r .1)) (omega (arith, r .1))))
+      near-of w c j (rw column (close-of _ _ (omega (arith, b)) (omega (arith, b))))
+      (rw line (close-of _ _ (omega (arith, r .1)) (omega (arith, r .1))))
 
   window-all : (j : ℕ) → near w c j ≡ true → j < h * w → List·Memᴰ j (window w h c)
   unfolding window
   window-all j nr l =
-      let c₁ = close-left _ _ (near-columns w c j nr) in
-      let c₂ = close-right _ _ (near-columns w c j nr) in
-      let r₁ = close-left _ _ (near-rows w c j nr) in
-      let r₂ = close-right _ _ (near-rows w c j nr) in
+      let q = near-both w c j nr in
+      let columns = close-both _ _ (q .0) in
+      let rows = close-both _ _ (q .1) in
       let whole = div-add-mod' j w in
       let small = mod-lt j pos in
       let below = div-lt-iff-lt-mul pos .1 l in

@@ -49,7 +49,20 @@ fn box_ink(s: &[u8], w: usize, x0: usize, y0: usize, lx: usize, ly: usize, t: u8
     n
 }
 
-// How many region cells a side has, and how many pixels of cell c lie on a side of n.
+// The same; whole cells have a call of their own, for which the compiler knows the sides.
+fn part_ink(s: &[u8], w: usize, x0: usize, y0: usize, lx: usize, ly: usize, t: u8) -> u8
+    requires { ⌜ CellInside (now s) w x0 y0 lx ly ⌝ }
+    ensures { λ r. ⌜ r ≡ box _+_ 0 (below (plane w (now (s .entry))) t) x0 y0 lx ly ⌝ }
+{
+    if lx == 8 {
+        if ly == 8 {
+            return box_ink(s, w, x0, y0, 8, 8, t);
+        }
+    }
+    box_ink(s, w, x0, y0, lx, ly, t)
+}
+
+// How many region cells a side has.
 pub fn region_cells(n: usize) -> usize
     requires { ⌜ n ≤ 4096 ⌝ }
     ensures { λ r. ⌜ r ≡ cells8 n ⌝ }
@@ -57,6 +70,15 @@ pub fn region_cells(n: usize) -> usize
     (n + 7) / 8
 }
 
+// How many region cells a picture has: rows by columns.
+pub fn cells_in(w: usize, h: usize) -> usize
+    requires { ⌜ (w ≤ 4096) × (h ≤ 4096) ⌝ }
+    ensures { λ r. ⌜ (r ≡ cellsOf w h) × (r ≤ 262144) ⌝ }
+{
+    region_cells(h) * region_cells(w)
+}
+
+// How many pixels of cell c lie on a side of n.
 fn span_of(n: usize, c: usize) -> usize
     requires { ⌜ 8 * c < n ⌝ }
     ensures { λ r. ⌜ r ≡ span8 n c ⌝ }
@@ -66,22 +88,14 @@ fn span_of(n: usize, c: usize) -> usize
 }
 
 // How many pixels of the cell in column cx and row cy are ink. The threshold is read once: a region
-// cell lies in one level cell. Whole cells have their own call, for which the compiler knows the
-// sides.
+// cell lies in one level cell.
 fn cell_ink(s: &[u8], w: usize, h: usize, grid: &[u8], cx: usize, cy: usize) -> u8
     requires { ⌜ Levelled (now s) w h (now grid) ⌝ }
     requires { ⌜ (8 * cx < w) × (8 * cy < h) ⌝ }
     ensures { λ r. ⌜ r ≡ inkPixels (plane w (now (s .entry))) w h cx cy ⌝ }
 {
     let t = grid[cy / 2 * cells_of(w) + cx / 2];
-    let lx = span_of(w, cx);
-    let ly = span_of(h, cy);
-    if lx == 8 {
-        if ly == 8 {
-            return box_ink(s, w, 8 * cx, 8 * cy, 8, 8, t);
-        }
-    }
-    box_ink(s, w, 8 * cx, 8 * cy, lx, ly, t)
+    part_ink(s, w, 8 * cx, 8 * cy, span_of(w, cx), span_of(h, cy), t)
 }
 
 fn mark_of(n: u8) -> u32
@@ -100,7 +114,7 @@ pub fn mark_cells(s: &[u8], w: usize, h: usize, grid: &[u8], labels: &mut [u32])
         (now (labels .entry)) ⌝ }
 {
     let cw = region_cells(w);
-    let n = region_cells(h) * cw;
+    let n = cells_in(w, h);
     let mut k = 0;
     let mut x = 0;
     let mut y = 0;

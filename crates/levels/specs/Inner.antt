@@ -4,7 +4,6 @@ use mathlib.Core.Bool.{Bool, false, true}
 use mathlib.Core.List.{List}
 use mathlib.Core.Path.{_≡_}
 use Prim.Native.Nat.{_*_, _+_, _<_, _≤_, max, min, ℕ}
-use lib.Ieee.{odd}
 use lib.ListN.{getD, length}
 use Rattle.laws.specs.Fold.{fold}
 use Rattle.laws.specs.Plane.{Plane, boxRow}
@@ -42,23 +41,21 @@ pub record Bins (f : ℕ → ℕ) (l : List ℕ) : Type 0 where
   pub many : length l ≡ 32
   pub counts : (b : ℕ) → b < 32 → getD l b 0 ≡ f b
 
--- 32 bins with one more in the bin of the byte v.
-pub record Counted (v : ℕ) (old new : List ℕ) : Type 0 where
-  pub many : length new ≡ 32
-  pub counts : (b : ℕ) → b < 32 → getD new b 0 ≡ getD old b 0 + inBin b v
+-- Four times 32 bins in one list, in which bytes are counted by turns: the sums of the four.
+abbrev pub sums : List ℕ → ℕ → ℕ
+sums l b = getD l b 0 + getD l (32 + b) 0 + getD l (64 + b) 0 + getD l (96 + b) 0
 
--- Two times 32 bins in which f is counted by turns.
-pub record Paired (f : ℕ → ℕ) (even odd : List ℕ) : Type 0 where
-  pub evens : length even ≡ 32
-  pub odds : length odd ≡ 32
-  pub counts : (b : ℕ) → b < 32 → getD even b 0 + getD odd b 0 ≡ f b
+-- Four times 32 bins in which f is counted.
+pub record Counted (f : ℕ → ℕ) (l : List ℕ) : Type 0 where
+  pub many : length l ≡ 128
+  pub counts : (b : ℕ) → b < 32 → sums l b ≡ f b
 
--- The sums of two lists of bins, and those with the bytes of a row counted too.
-abbrev pub sums : List ℕ → List ℕ → ℕ → ℕ
-sums even odd b = getD even b 0 + getD odd b 0
+-- The sums with one more in the bin of the byte v, and with the bytes of a row counted too.
+abbrev pub oneMore : ℕ → List ℕ → ℕ → ℕ
+oneMore v l b = sums l b + inBin b v
 
-abbrev pub more : List ℕ → List ℕ → List ℕ → ℕ → ℕ
-more row even odd b = getD even b 0 + getD odd b 0 + countList row (length row) b
+abbrev pub rowMore : List ℕ → List ℕ → ℕ → ℕ
+rowMore row l b = sums l b + countList row (length row) b
 
 -- Bins of at most n each.
 abbrev pub BinsUpTo : ℕ → (ℕ → ℕ) → Type 0

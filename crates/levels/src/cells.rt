@@ -5,68 +5,83 @@ ghost use lib.ListN.{length};
 ghost use Rattle.laws.specs.Plane.{plane, drawn, valueAt};
 ghost use Rattle.levels.specs.Level.{countRows, lowBin, highBin, span, cells, dark, light};
 ghost use Rattle.picture_checks.specs.Picture.{Picture};
-ghost use Rattle.levels.specs.Inner.{Within, Bins, Paired, BinsUpTo, sums, more, Counted};
+ghost use Rattle.levels.specs.Inner.{Within, Bins, BinsUpTo, sums, oneMore, rowMore, Counted};
 
-// Adds a byte to bins.
-fn count_one(bins: &mut [u32; 32], v: u8)
-    requires { ⌜ length (now bins) ≡ 32 ⌝ }
-    requires { ⌜ BinsUpTo 256 (valueAt (now bins)) ⌝ }
-    ensures { λ _. ⌜ Counted v (now (bins .entry)) (now (bins .exit)) ⌝ }
+// Adds a byte to the turn-th of four times 32 bins.
+fn count_one(bins: &mut [u32; 128], turn: usize, v: u8)
+    requires { ⌜ (length (now bins) ≡ 128) × (turn < 4) ⌝ }
+    requires { ⌜ BinsUpTo 256 (sums (now bins)) ⌝ }
+    ensures { λ _. ⌜ Counted (oneMore v (now (bins .entry))) (now (bins .exit)) ⌝ }
 {
-    let b = (v / 8) as usize;
+    let b = 32 * turn + (v / 8) as usize;
     bins[b] += 1;
 }
 
-// Adds the bytes of a row of at most 16 pixels to two arrays of bins, by turns: two stores in a
-// row never wait for each other.
-fn count_pairs(row: &[u8], even: &mut [u32; 32], odd: &mut [u32; 32])
+// Adds the bytes of a row of at most 16 pixels to four times 32 bins, by turns: stores that follow
+// each other never wait for each other.
+fn count_row(row: &[u8], bins: &mut [u32; 128])
     requires { ⌜ length (now row) ≤ 16 ⌝ }
-    requires { ⌜ (length (now even) ≡ 32) × (length (now odd) ≡ 32) ⌝ }
-    requires { ⌜ BinsUpTo 240 (sums (now even) (now odd)) ⌝ }
-    ensures { λ _. ⌜
-        Paired (more (now (row .entry)) (now (even .entry)) (now (odd .entry)))
-        (now (even .exit)) (now (odd .exit)) ⌝ }
+    requires { ⌜ length (now bins) ≡ 128 ⌝ }
+    requires { ⌜ BinsUpTo 240 (sums (now bins)) ⌝ }
+    ensures { λ _. ⌜ Counted (rowMore (now (row .entry)) (now (bins .entry))) (now (bins .exit)) ⌝ }
 {
     let mut i = 0;
-    while i + 1 < row.len() {
-        count_one(even, row[i]);
-        count_one(odd, row[i + 1]);
-        i += 2;
-    }
-    if i < row.len() {
-        count_one(even, row[i]);
+    while i < row.len() {
+        count_one(bins, i % 4, row[i]);
+        i += 1;
     }
 }
 
-// The sums of two arrays of bins.
-fn merged(a: &[u32; 32], b: &[u32; 32]) -> [u32; 32]
-    requires { ⌜ BinsUpTo 256 (sums (now a) (now b)) ⌝ }
-    ensures { λ r. ⌜ Bins (sums (now (a .entry)) (now (b .entry))) r ⌝ }
+// The sum of bin i of four times 32 bins.
+fn sum_at(bins: &[u32; 128], i: usize) -> u32
+    requires { ⌜ BinsUpTo 256 (sums (now bins)) ⌝ }
+    requires { ⌜ i < 32 ⌝ }
+    ensures { λ r. ⌜ r ≡ sums (now (bins .entry)) i ⌝ }
+{
+    bins[i] + bins[32 + i] + bins[64 + i] + bins[96 + i]
+}
+
+// The sums of four times 32 bins.
+fn merged(bins: &[u32; 128]) -> [u32; 32]
+    requires { ⌜ BinsUpTo 256 (sums (now bins)) ⌝ }
+    ensures { λ r. ⌜ Bins (sums (now (bins .entry))) r ⌝ }
 {
     let mut r = [0u32; 32];
     let mut i = 0;
     while i < 32 {
-        r[i] = a[i] + b[i];
+        r[i] = sum_at(bins, i);
         i += 1;
     }
     r
 }
 
 // The bins of the part of a picture that is lx wide and ly high, from x0 and y0.
-fn count_cell(s: &[u8], w: usize, x0: usize, y0: usize, lx: usize, ly: usize) -> [u32; 32]
+fn count_part(s: &[u8], w: usize, x0: usize, y0: usize, lx: usize, ly: usize) -> [u32; 32]
     requires { ⌜ Within (now s) w x0 y0 lx ly ⌝ }
     ensures { λ r. ⌜ Bins (countRows (plane w (now (s .entry))) x0 y0 lx ly) r ⌝ }
 {
-    let mut even = [0u32; 32];
-    let mut odd = [0u32; 32];
+    let mut bins = [0u32; 128];
     let mut j = 0;
     while j < ly {
         let a = (y0 + j) * w + x0;
         let e = a + lx;
-        count_pairs(&s[a..e], &mut even, &mut odd);
+        count_row(&s[a..e], &mut bins);
         j += 1;
     }
-    merged(&even, &odd)
+    merged(&bins)
+}
+
+// The same. Whole cells have their own call, for which the compiler knows the sides.
+fn count_cell(s: &[u8], w: usize, x0: usize, y0: usize, lx: usize, ly: usize) -> [u32; 32]
+    requires { ⌜ Within (now s) w x0 y0 lx ly ⌝ }
+    ensures { λ r. ⌜ Bins (countRows (plane w (now (s .entry))) x0 y0 lx ly) r ⌝ }
+{
+    if lx == 16 {
+        if ly == 16 {
+            return count_part(s, w, x0, y0, 16, 16);
+        }
+    }
+    count_part(s, w, x0, y0, lx, ly)
 }
 
 // The first bin from below where the running count exceeds cut, else 31.

@@ -9,8 +9,9 @@ ghost use Rattle.labels.specs.Cells.{cells8, cellsOf, labelAt, groupsOf};
 ghost use Rattle.picture.specs.Door.{checkGrids, refusedBy, pictureAnswer, levelsAfter, labelsAfter, StackAfter};
 ghost use Rattle.regions.specs.Regions.{keptRegions};
 ghost use Rattle.laws.specs.Lent.{UntouchedPast};
-ghost use Rattle.picture.specs.Inner.{ListRooms, LabelledBy};
+ghost use Rattle.picture.specs.Inner.{checkLists, ListRooms, LabelledBy};
 use crate::answer::PictureAnswer;
+use labels::cells::cells_in;
 use labels::cells::mark_cells;
 use labels::cells::region_cells;
 use labels::groups::label_all;
@@ -23,16 +24,22 @@ use regions::top::regions;
 
 pub mod answer;
 
-// The checks of the lent lists, by how many places they have, where those of the picture passed.
-fn check_lists(w: usize, h: usize, bytes: usize, grid: usize, labels: usize, stack: usize) -> u32
-    requires { ⌜ Sides w h bytes ⌝ }
-    ensures answer { λ r. ⌜ r ≡ checkGrids w h bytes grid labels stack ⌝ }
-    ensures passed { λ r. ⌜ (r ≡ 0 → ListRooms w h grid labels stack) ⌝ }
+// How many level cells a picture has.
+fn level_cells(w: usize, h: usize) -> usize
+    requires { ⌜ (w ≤ 4096) × (h ≤ 4096) ⌝ }
+    ensures { λ r. ⌜ r ≡ cells w * cells h ⌝ }
 {
-    if grid < cells_of(w) * cells_of(h) {
+    cells_of(w) * cells_of(h)
+}
+
+// The checks of the lent lists, by how many places they have, of which `a` are needed in the level
+// grid and `n` in each of the others.
+fn check_lists(a: usize, n: usize, grid: usize, labels: usize, stack: usize) -> u32
+    ensures { λ r. ⌜ r ≡ checkLists a n grid labels stack ⌝ }
+{
+    if grid < a {
         return 3;
     }
-    let n = region_cells(h) * region_cells(w);
     if labels < n {
         return 3;
     }
@@ -51,7 +58,7 @@ pub fn check(w: usize, h: usize, bytes: usize, grid: usize, labels: usize, stack
     if no != 0 {
         return no;
     }
-    check_lists(w, h, bytes, grid, labels, stack)
+    check_lists(level_cells(w, h), cells_in(w, h), grid, labels, stack)
 }
 
 // The level grid and the labels of a picture, and how many labels there are. Before labelling, the
@@ -90,7 +97,7 @@ fn count_regions(s: &[u8], w: usize, h: usize, labels: &[u32], stack: &mut [u32]
 {
     let cw = region_cells(w);
     let ch = region_cells(h);
-    let n = ch * cw;
+    let n = cells_in(w, h);
     let m = v as usize;
     regions(&labels[..n], &mut stack[..m], cw, ch, w, h)
 }

@@ -14,7 +14,6 @@ use lib.ListN.{getD, length}
 use Rattle.laws.proofs.Bools.{which}
 use Rattle.laws.proofs.Planes.{counted-row, next-row, place-col, place-row, zero-place}
 use Rattle.levels.specs.Level.{cells}
-use Rattle.levels.specs.Inner.{more}
 use Rattle.regions.proofs.Boxes.{highest-le, highest-no, highest-yes, lowest-le, lowest-no, lowest-yes}
 use Rattle.regions.specs.Boxes.{highest, lowest}
 use Rattle.labels.specs.Labels.{label}

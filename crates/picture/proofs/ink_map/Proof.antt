@@ -1,13 +1,12 @@
--- The level grid gives the marks and these the labels (levelled-of, labels-mapped). Assumes nothing.
-use Prim.Native.Nat.{_≤_}
-use native.Mathlib.Nat.{le-trans, mul-le-mul}
+-- The level grid gives the marks and these the labels (levelled-of, mapped). Assumes nothing.
+use native.Mathlib.Nat.{le-trans}
 use native.Mathlib.Omega.{arith}
-use lib.ListN.{length}
 use borrow.Author.Needs.{needs}
 use denote.Ref.{now}
 use Rattle.laws.proofs.Past.{past-more, past-then}
-use Rattle.labels.specs.Cells.{cells8, cellsOf}
-use Rattle.picture.proofs.Outcomes.{level-cells-few, levelled-of, groups-mapped, labels-mapped}
+use Rattle.labels.proofs.InkCells.{cells-few}
+use Rattle.labels.specs.Cells.{cellsOf}
+use Rattle.picture.proofs.Outcomes.{level-cells-few, levelled-of, mapped}
 use Rattle.picture.proofs.ink_map.Statement.{statement}
 use Rattle.picture.proofs.ink_map.Tie as tie
 
@@ -39,12 +38,10 @@ label-all-requires c κs =
     let p = v .before .before .before .before .before .before .before .before in
     let m = u .mark-cells in
     let g = v .level-grid in
-    let all = mul-le-mul {n₁ = cells8 (p .args .h)} {m₁ = cells8 (p .args .w)} {n₂ = 512} {m₂ = 512} (omega (arith, p .pre .0 .h-high))
-    (omega (arith, p .pre .0 .w-high)) in
     rw (c .region-cells2 .ensures, c .before .region-cells .ensures) (
       rw (m .kept .1 .1 .1 .1 .0, g .kept .1 .1 .1 .1 .0) (p .pre .1 .label),
       rw (g .kept .1 .1 .1 .1 .1 .0) (p .pre .1 .room),
-      all,
+      cells-few (p .pre .0 .w-high) (p .pre .0 .h-high),
       omega (arith, p .pre .0 .w-low),
     )
 
@@ -66,21 +63,12 @@ returns c =
     let a = p .args in
     let m = u .mark-cells in
     let g = v .level-grid in
-    let room : cellsOf (a .w) (a .h) ≤ length (m .last .1 .1 .1 .1 .0) = rw (m .kept .1 .1 .1 .1 .0, g .kept .1 .1 .1 .1 .0) (p .pre .1 .label) in
     let cw = l .before .before .region-cells .ensures in
     let ch = l .before .region-cells2 .ensures in
-    let e = l .label-all .ensures in (
-      groups-mapped (now (a .s)) (a .w) (a .h) (p .pre .0) (now (a .labels)) (g .last .1 .1 .1 .1 .0) (m .last .1 .1 .1 .1 .0) (g .ensures .1 .0)
-          room (m .ensures) cw ch (e .0),
-      (
-        g .ensures .0,
-        (
-          labels-mapped (now (a .s)) (a .w) (a .h) (p .pre .0) (now (a .labels)) (g .last .1 .1 .1 .1 .0) (m .last .1 .1 .1 .1 .0)
-              (g .ensures .1 .0) room (m .ensures) cw ch (e .1 .0),
-          past-then (past-more (cellsOf (a .w) (a .h)) (level-cells-few (a .w) (a .h)) (g .ensures .1 .1)) (rw (cw, ch) at (e .1 .1)),
-        ),
-      ),
-    )
+    let e = l .label-all .ensures in
+    let r = mapped (now (a .s)) (p .pre .0) (p .pre .1 .label) (g .ensures .1 .0) (m .ensures) cw ch (e .0) (e .1 .0) in
+    let past = past-more (cellsOf (a .w) (a .h)) (level-cells-few (a .w) (a .h)) (g .ensures .1 .1) in
+    (r .0, (g .ensures .0, (r .1, past-then past (rw (cw, ch) at (e .1 .1)))))
 
 pub ink-map-spec : {M : Type 1} → statement M
 ink-map-spec =

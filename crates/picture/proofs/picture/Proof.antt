@@ -4,14 +4,13 @@ use mathlib.Core.Path.{_∙_, _≡_, ap, sym}
 use Prim.Native.Nat.{ℕ}
 use native.Mathlib.Omega.{arith}
 use lib.Dec.{eqb}
-use lib.ListN.{length}
 use borrow.Author.Needs.{needs}
 use borrow.Author.Tests.{ne-eqb}
 use denote.Ref.{now}
 use Rattle.laws.specs.Plane.{plane}
 use Rattle.laws.proofs.Past.{past-then}
 use Rattle.regions.specs.Regions.{keptRegions}
-use Rattle.picture.specs.Door.{answerBy, checkGrids}
+use Rattle.picture.specs.Door.{answerBy}
 use Rattle.picture.proofs.Outcomes.{answer-refused, labelled-by}
 use Rattle.picture.proofs.picture.Statement.{statement}
 use Rattle.picture.proofs.picture.Tie as tie
@@ -66,8 +65,7 @@ returns-2 c =
     let a = k .before .before .before .before .before .args in
     let i = q .ink-map .ensures in
     let r = c .before .before .count-regions .ensures in
-    let passed : checkGrids (a .w) (a .h) (length (now (a .s))) (length (now (a .grid))) (length (now (a .labels))) (length (now (a .stack))) ≡ 0 =
-    sym (k .check .ensures .0) ∙ q .before .before .before .before .if1 .left in
+    let passed = sym (k .check .ensures .0) ∙ q .before .before .before .before .if1 .left in
     (rw (passed, r .0), (i .1 .0, (i .1 .1 .0, past-then (i .1 .1 .1) (r .1))))
 
 pub picture-spec : {M : Type 1} → statement M

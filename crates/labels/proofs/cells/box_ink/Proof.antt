@@ -5,9 +5,9 @@ use native.Mathlib.Nat.{mul-le-mul}
 use native.Mathlib.Omega.{arith}
 use lib.ListN.{length-take}
 use denote.Ref.{now}
-use Rattle.labels.proofs.InkCells.{box-le, box-step}
+use Rattle.labels.proofs.InkCells.{box-le, box-step, row-inside}
 use Rattle.labels.specs.Inner.{below}
-use Rattle.laws.proofs.Planes.{box-none, row-end}
+use Rattle.laws.proofs.Planes.{box-none}
 use Rattle.laws.specs.Plane.{box, plane}
 use Rattle.labels.proofs.cells.box_ink.Statement.{statement}
 use Rattle.labels.proofs.cells.box_ink.Tie as tie
@@ -25,19 +25,13 @@ add-a : tie.Need-add-a Inv-loop μ-loop
 add-a c = omega arith
 
 mul-a : tie.Need-mul-a Inv-loop μ-loop
-mul-a c =
-    let a = c .before .before .before .args in
-    omega (arith, row-end (a .y0 + c .before .loop .j) (a .y0 + a .ly) (a .w) (omega arith))
+mul-a c = omega (arith, row-inside (c .before .before .before .pre) (c .loop-test .taken))
 
 add-a-2 : tie.Need-add-a-2 Inv-loop μ-loop
-add-a-2 c =
-    let a = c .before .before .before .args in
-    omega (arith, row-end (a .y0 + c .before .loop .j) (a .y0 + a .ly) (a .w) (omega arith))
+add-a-2 c = omega (arith, row-inside (c .before .before .before .pre) (c .loop-test .taken))
 
 add-e : tie.Need-add-e Inv-loop μ-loop
-add-e c =
-    let a = c .before .before .before .args in
-    omega (arith, row-end (a .y0 + c .before .loop .j) (a .y0 + a .ly) (a .w) (omega arith))
+add-e c = omega (arith, row-inside (c .before .before .before .pre) (c .loop-test .taken))
 
 sub-row-ink : tie.Need-sub-row-ink Inv-loop μ-loop
 sub-row-ink c = omega arith
@@ -46,9 +40,7 @@ part-row-ink-start : tie.Need-part-row-ink-start Inv-loop μ-loop
 part-row-ink-start c = omega arith
 
 part-row-ink-end : tie.Need-part-row-ink-end Inv-loop μ-loop
-part-row-ink-end c =
-    let a = c .before .before .before .args in
-    omega (arith, row-end (a .y0 + c .before .loop .j) (a .y0 + a .ly) (a .w) (omega arith))
+part-row-ink-end c = omega (arith, row-inside (c .before .before .before .pre) (c .loop-test .taken))
 
 row-ink-requires : tie.Need-row-ink-requires Inv-loop μ-loop
 row-ink-requires c κs = simp length-take (omega arith)
@@ -75,11 +67,9 @@ loop-again : tie.Need-loop-again Inv-loop μ-loop
 loop-again c =
     let at = c .before .before .before in
     let a = at .before .before .args in
-    let e = row-end (a .y0 + at .loop .j) (a .y0 + a .ly) (a .w) (omega arith) in (
-      omega arith,
-      box-step (now (a .s)) (a .w) (a .x0) (a .y0) (a .lx) (at .loop .j) (a .t) (omega arith) (at .loop .inv .1)
-          (c .row-ink .ensures .0),
-    )
+    let within = row-inside (at .before .before .pre) (c .before .before .loop-test .taken) in
+    let more = c .row-ink .ensures .0 in
+    (omega arith, box-step (now (a .s)) (a .w) (a .x0) (a .y0) (a .lx) (at .loop .j) (a .t) within (at .loop .inv .1) more)
 
 returns : tie.Need-returns Inv-loop μ-loop
 returns c =

@@ -8,7 +8,6 @@ use denote.Ref.{now}
 use Rattle.labels.proofs.InkCells.{row-le, row-none, row-step}
 use Rattle.labels.specs.Inner.{rowBelow}
 use Rattle.laws.specs.Fold.{sumTo}
-use Rattle.levels.specs.Inner.{more}
 use Rattle.labels.proofs.cells.row_ink.Statement.{statement}
 use Rattle.labels.proofs.cells.row_ink.Tie as tie
 

@@ -18,8 +18,10 @@ loop-holds c = cells-begin (c .before .before .pre .0)
 label-at-requires : tie.Need-label-at-requires Inv-loop μ-loop
 label-at-requires c κs =
     let i = c .before .before .before .loop .inv in
-    let e = c .before .before .before .before .before .before in
-    (i .grid, (omega arith, omega (arith, i .grid .size, i .same, e .pre .0 .size, e .pre .1), omega (arith, i .small, i .grid .size, i .grid .few)))
+    let e = c .before .before .before .before .before .before .pre in (
+      i .grid,
+      (omega arith, omega (arith, i .grid .size, i .same, e .0 .size, e .1), omega (arith, i .small, i .grid .size, i .grid .few)),
+    )
 
 add-s : tie.Need-add-s Inv-loop μ-loop
 add-s c = search needs

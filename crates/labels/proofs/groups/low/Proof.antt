@@ -1,4 +1,4 @@
--- `labels::groups::low` meets its contract. Assumes nothing.
+-- By the comparison. Assumes nothing.
 use native.Mathlib.Omega.{arith}
 use Rattle.labels.proofs.groups.low.Statement.{statement}
 use Rattle.labels.proofs.groups.low.Tie as tie

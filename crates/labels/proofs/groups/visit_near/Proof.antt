@@ -1,4 +1,5 @@
 -- The rows of the window before row g are visited (Rows); the measure is the rows left. Assumes nothing.
+use mathlib.Core.Path.{_∙_}
 use Prim.Native.Nat.{_-_}
 use native.Mathlib.Nat.{div-le-self, mod-le}
 use native.Mathlib.Omega.{arith}
@@ -46,8 +47,10 @@ visit-line-requires : tie.Need-visit-line-requires Inv-loop μ-loop
 visit-line-requires c κs =
     let e = c .before .before .before .before .before .before .before .before .before .before in
     let i = c .before .before .before .loop .inv in
-    let b = rows-within (e .pre .1 .0 .some) i (omega arith) in
-    (i .done .safe, (b .0, omega (arith, b .1, i .done .size, e .pre .1 .0 .size), omega (arith, i .done .size, e .pre .1 .0 .size, e .pre .1 .0 .few), e .pre .1 .1 .1))
+    let grid = e .pre .1 .0 in
+    let b = rows-within (grid .some) i (omega arith) in
+    let size = i .done .size ∙ grid .size in
+    (i .done .safe, (b .0, omega (arith, b .1, size), omega (arith, size, grid .few), e .pre .1 .1 .1))
 
 add-g : tie.Need-add-g Inv-loop μ-loop
 add-g c = search needs
