@@ -7,13 +7,15 @@ SRC     folder of the Rust sources, with crates/ in it
 OUT     folder to write the cargo workspace to (three crates: lcr-core, lcr-decode, oracle)
 DRIVER  folder with the driver's own *.rs files (default: `driver` beside this script)
 
-Three kinds of change are made, and no other; all are checked and listed in OUT/CHANGES.txt:
+Four kinds of change are made, and no other; all are checked and listed in OUT/CHANGES.txt:
   * whole items that need modules which are not there are cut (colours, palette, illumination,
     demodulation, format reading, errors), with the `use` lines that name those modules; two `use`
     lines are shortened;
   * `pub ` is put before private items, methods and fields;
   * lines that note what is found (NOTES below, with notes.rs) are put into a second build of
-    ring.rs, the module `noted`. The module `ring` has none of them.
+    ring.rs, the module `noted`. The module `ring` has none of them;
+  * one line (SKIP below) is put into a third build of the functions of ring.rs that take samples, the module `skipping`:
+    a sample with a NaN coordinate is noted and skipped.
 """
 import os, re, sys
 
@@ -136,6 +138,27 @@ def note(lines):
         made += put.get(i, []) + [l]
     return made, [l for ls in put.values() for l in ls]
 
+# Rule 33 where it is not the Rust's: a sample with a NaN coordinate is skipped, before the line of `ring_lumas` that tests the range; and
+# the functions that take samples, which are built with it over the other items of ring.rs.
+SKIP = ("if px <", "if px.is_nan() || py.is_nan() { crate::notes::skip(); continue; }")
+SAMPLING = ("pub fn detect_ring(", "pub fn trace(", "pub fn attempt(", "pub fn correlate_quad(", "pub fn ring_lumas(")
+
+def skipping(lines, uses):
+    """The `use` lines that these functions need, those handed in after them, and the functions of SAMPLING with SKIP put in; and the line that was put in."""
+    made, skip = [l for l in lines if l.startswith("use ") and "math" not in l] + list(uses), None
+    for head in SAMPLING:
+        i = [i for i, l in enumerate(lines) if l.startswith(head)]
+        if len(i) != 1:
+            sys.exit(f"function {head!r}: {len(i)} places")
+        for l in lines[i[0]:lines.index("}", i[0]) + 1]:
+            if l.strip().startswith(SKIP[0]):
+                skip = re.match(r" *", l).group() + SKIP[1]
+                made.append(skip)
+            made.append(l)
+    if made.count(skip) != 1:
+        sys.exit(f"{SKIP[0]!r}: not one place")
+    return made, skip
+
 def strip_pub(l):
     return l.replace("pub(crate) ", "").replace("pub ", "").strip()
 
@@ -223,9 +246,12 @@ def main():
     uses = "use crate::notes::Note;"
     noted.insert(noted.index(v_new), uses)
     put("lcr-decode", "noted.rs", o, noted, (b_new, v_new, uses, *notes))
+    over = "use crate::ring::*;"
+    made, skip = skipping(opened, (over,))
+    put("lcr-decode", "skipping.rs", o, made, (b_new, v_new, over, skip))
     write(os.path.join(out, "lcr-decode/src/notes.rs"), open(os.path.join(HERE, "notes.rs"), encoding="utf-8").read())
     lib = ("//! Oracle build of lcr-decode: see CHANGES.txt.\nextern crate alloc;\npub mod math;\npub mod noted;\n"
-           "pub mod notes;\npub mod ring;\npub mod transform;\n")
+           "pub mod notes;\npub mod ring;\npub mod skipping;\npub mod transform;\n")
     write(os.path.join(out, "lcr-decode/src/lib.rs"), lib)
 
     # manifests and driver

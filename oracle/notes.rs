@@ -1,6 +1,6 @@
 //! What the Rust finds on its way, in order. make_oracle.py puts the lines that note it into a second build of ring.rs,
 //! `noted`, and this file beside it; the build that is compared and timed has none of them.
-use std::cell::RefCell;
+use std::cell::{Cell, RefCell};
 
 pub type Quad = [(f32, f32); 4];
 
@@ -46,6 +46,7 @@ pub enum Note {
 
 thread_local! {
     static NOTES: RefCell<Vec<Note>> = const { RefCell::new(Vec::new()) };
+    static SKIPS: Cell<u64> = const { Cell::new(0) };
 }
 
 impl Note {
@@ -59,4 +60,16 @@ pub fn of<T>(run: impl FnOnce() -> T) -> (Vec<Note>, T) {
     NOTES.take();
     let answer = run();
     (NOTES.take(), answer)
+}
+
+/// `skipping`: a sample has a NaN coordinate.
+pub fn skip() {
+    SKIPS.set(SKIPS.get() + 1);
+}
+
+/// How many such samples there were in what runs, and its answer.
+pub fn skips<T>(run: impl FnOnce() -> T) -> (u64, T) {
+    SKIPS.set(0);
+    let answer = run();
+    (SKIPS.get(), answer)
 }

@@ -4,9 +4,10 @@ use crate::calls::{Area, Call, Words, packed, start, w32, w64};
 use crate::cases::{rooms, some};
 use crate::pic::Rng;
 use crate::ring as door;
+use crate::skips;
 use crate::smaller::{Layout, Unit};
 use lcr_core::version::Version;
-use lcr_decode::ring::{self, RingFix, RingTrace};
+use lcr_decode::ring::{RingFix, RingTrace};
 
 pub const AREA: Area = Area { name: "attempt", stored, random, answer, layout: |_| layout() };
 
@@ -39,7 +40,7 @@ pub fn args(c: &Case, rooms: [u32; 3]) -> Vec<u32> {
 }
 
 pub fn traced(c: &Case) -> RingTrace {
-    ring::attempt(&c.g, c.w, c.h, &pairs(&c.nums), Version::new_unchecked(c.maxv as u8))
+    skips::attempt(&c.g, c.w, c.h, &pairs(&c.nums), Version::new_unchecked(c.maxv as u8))
 }
 
 pub fn layout() -> Layout {

@@ -2,7 +2,7 @@
 //! and kept, with the words that replay it.
 use crate::calls::{Area, Call, name, start};
 use crate::smaller::{Layout, Unit, smaller};
-use crate::{AREAS, finder, functions, listing};
+use crate::{AREAS, finder, functions, listing, skips};
 use std::collections::BTreeMap;
 use std::path::PathBuf;
 use std::process::{Command, exit};
@@ -89,7 +89,8 @@ pub fn run(which: &str, seed: u64, seconds: f64, most: u64) {
     }
     table(&counts);
     let sum = |k: usize| counts.values().map(|n| n[k]).sum::<u64>();
-    println!("\n{} calls ({} stored, {} random from seed {seed}) in {:.0} seconds, 0 different", sum(0) + sum(1), sum(0), sum(1), from.elapsed().as_secs_f64());
+    print!("\n{}", skips::said());
+    println!("{} calls ({} stored, {} random from seed {seed}) in {:.0} seconds, 0 different", sum(0) + sum(1), sum(0), sum(1), from.elapsed().as_secs_f64());
 }
 
 /// The counts of each entry, then of each area, in Markdown.

@@ -7,6 +7,7 @@ use crate::calls::{Area, Call, Words, packed, w32, w64};
 use crate::looks::Q;
 use crate::pic::{Pic, Rng};
 use crate::picture::{lent8, lent32, level_cells, region_cells};
+use crate::skips;
 use crate::smaller::{Layout, Unit};
 use crate::trays;
 use lcr_core::version::Version;
@@ -141,7 +142,7 @@ pub fn tag(t: &RingTrace) -> Option<Tag> {
 
 /// The tags of the kept regions' own fixes, in the regions' order.
 fn own(p: (&[u8], u32, u32), ink: &InkMap, most: Version) -> Vec<Tag> {
-    let attempt = |r: &ring::Region| ring::attempt(p.0, p.1, p.2, &ring::boundary_points(ink, Some(r.label), r.bbox), most);
+    let attempt = |r: &ring::Region| skips::attempt(p.0, p.1, p.2, &ring::boundary_points(ink, Some(r.label), r.bbox), most);
     ink.regions().0.iter().filter_map(|r| tag(&attempt(r))).collect()
 }
 
@@ -149,7 +150,7 @@ fn own(p: (&[u8], u32, u32), ink: &InkMap, most: Version) -> Vec<Tag> {
 pub fn tags(g: &[u8], w: u32, h: u32, most: u32) -> Vec<Tag> {
     let most = Version::new_unchecked(most as u8);
     let own = own((g, w, h), &InkMap::new(g, w, h), most);
-    if own.is_empty() { tag(&ring::trace(g, w, h, most)).into_iter().collect() } else { own }
+    if own.is_empty() { tag(&skips::trace(g, w, h, most)).into_iter().collect() } else { own }
 }
 
 /// What the Rust finds in a picture.
@@ -166,7 +167,7 @@ impl Seen {
         let (w, h, most) = (a.w as u32, a.h as u32, Version::new_unchecked(a.most as u8));
         let ink = InkMap::new(&a.g, w, h);
         let own = own((&a.g, w, h), &ink, most);
-        Seen { trace: ring::trace(&a.g, w, h, most), own, levels: ink.threshold, labels: ink.label }
+        Seen { trace: skips::trace(&a.g, w, h, most), own, levels: ink.threshold, labels: ink.label }
     }
 
     /// As `tags` has them.

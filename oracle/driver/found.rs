@@ -4,7 +4,7 @@ use crate::calls::{Call, start, w64};
 use crate::find::{AREA, Asked, Seen, Tag, tag};
 use crate::pic::Rng;
 use crate::tagged::Shot;
-use crate::{compare, finder_find, functions, tallies, trays};
+use crate::{compare, finder_find, functions, skips, tallies, trays};
 use lcr_core::version::Version;
 use lcr_decode::ring::{self, InkMap, RingFix};
 use std::time::Instant;
@@ -68,7 +68,7 @@ fn by(a: &Asked, seen: &Seen, most: Version) -> Option<By> {
         return Some(By::Region);
     }
     let (w, h) = (a.w as u32, a.h as u32);
-    let all = || ring::attempt(&a.g, w, h, &ring::boundary_points(&InkMap::new(&a.g, w, h), None, (0, 0, w, h)), most);
+    let all = || skips::attempt(&a.g, w, h, &ring::boundary_points(&InkMap::new(&a.g, w, h), None, (0, 0, w, h)), most);
     Some(if seen.trace.regions > 1 && all().fix.is_some() { By::AllInk } else { By::Fallback })
 }
 
@@ -92,7 +92,7 @@ fn one(shot: Shot, r: &mut Rng, held: &mut Held, place: &str, seed: u64) -> Answ
     held.compared += 2;
     held.hold(&a, &|kind| seen.words(kind, &a), place, seed);
     let most = Version::new_unchecked(most as u8);
-    if fix_bits(&ring::detect_ring(&a.g, a.w as u32, a.h as u32, most)) != fix_bits(&seen.trace.fix) {
+    if fix_bits(&skips::detect_ring(&a.g, a.w as u32, a.h as u32, most)) != fix_bits(&seen.trace.fix) {
         held.told(place, "detect_ring beside trace");
     }
     let by = by(&a, &seen, most);

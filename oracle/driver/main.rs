@@ -23,6 +23,7 @@ mod pic;
 mod picture;
 mod ring;
 mod rings;
+mod skips;
 mod smaller;
 mod tagged;
 mod transform;

@@ -3,6 +3,7 @@
 use crate::calls::{Area, Call, Words, packed, w32, w64};
 use crate::looks::{Q, wild};
 use crate::pic::*;
+use crate::skips;
 use crate::smaller::{Layout, Unit};
 use lcr_core::version::Version;
 use lcr_decode::notes::{self, Note};
@@ -54,14 +55,14 @@ fn answer(kind: u32, args: &[u32]) -> Option<Vec<u32>> {
     }
     if kind == 901 {
         let t = Transform { m: w.doubles(8)?.try_into().ok()?, radial: w.doubles(3)?.try_into().ok()? };
-        let list = ring::ring_lumas(&w.bytes(n as usize)?, width, height, &t, side_of(v as u8));
+        let list = skips::ring_lumas(&w.bytes(n as usize)?, width, height, &t, side_of(v as u8));
         return w.ended([vec![0], bits(&list)].concat());
     }
     let (q, [x, y, k, outer]) = (quad_of(w.singles()?), w.singles()?);
     if w32(outer) != w32(span(&q)) || args.len() < 26 {
         return None;
     }
-    let t = ring::correlate_quad(&w.bytes(n as usize)?, width, height, q, (x, y, k), 0, Version::new_unchecked(v as u8));
+    let t = skips::correlate_quad(&w.bytes(n as usize)?, width, height, q, (x, y, k), Version::new_unchecked(v as u8));
     Some([vec![0], scores(&t.scores)].concat())
 }
 
@@ -242,7 +243,65 @@ fn random(r: &mut Rng) -> Call {
     search_call(r, kind, 220)
 }
 
-/// Rings of several versions with every corner and direction, wild quads, versions that have no transform.
+/// A picture of a few pixels.
+fn tiny(r: &mut Rng) -> Pic {
+    let (w, h) = (r.range(1, 6) as u32, r.range(1, 6) as u32);
+    Pic { w, h, g: (0..w * h).map(|_| r.next() as u8).collect() }
+}
+
+/// No lens, one about the picture's middle, or one that has a number without a value.
+fn some_lens(p: &Pic, r: &mut Rng) -> Lens {
+    let c = (p.w as f32 / 2.0, p.h as f32 / 2.0);
+    match r.below(4) {
+        0 => (c.0, c.1, (r.unit() as f32 - 0.5) * 1e-2),
+        1 => [(f32::NAN, c.1, 1e-3), (c.0, f32::NAN, 1e-3), (c.0, c.1, f32::INFINITY)][r.below(3) as usize],
+        _ => (c.0, c.1, 0.0),
+    }
+}
+
+/// A quad with a corner that is no number in one coordinate or in both, that is infinite, or with corners that fall together or into line.
+fn broken_quad(r: &mut Rng) -> Q {
+    let mut q = [(0.0, 0.0), (90.0, 0.0), (90.0, 90.0), (0.0, 90.0)].map(|p: (f32, f32)| (p.0 + r.unit() as f32, p.1 + r.unit() as f32));
+    let (i, way) = (r.below(4) as usize, r.below(8));
+    match way {
+        0 => q[i].0 = f32::NAN,
+        1 => q[i].1 = f32::NAN,
+        2 => q[i] = (f32::NAN, f32::NAN),
+        3 => q[i].0 = f32::INFINITY,
+        4 => q[i].1 = f32::NEG_INFINITY,
+        5 => q[i] = q[(i + 1) % 4],
+        6 => q = q.map(|p| (p.0, p.0 * 1e-20)),
+        _ => q = [(-740.0, 0.0), (0.0, -1.65e-14), (740.0, 0.0), (0.0, 1.65e-14)],
+    }
+    q
+}
+
+/// A transform near the picture with a number that is none or infinite: of x alone, of y alone, or of both.
+fn broken_map(p: &Pic, r: &mut Rng) -> Transform {
+    let a = p.w as f64 / 20.0;
+    let mut t = Transform { m: [a, 0.0, 1.0, 0.0, a, 1.0, 0.0, 0.0], radial: [0.0; 3] };
+    t.m[r.below(8) as usize] = [f64::NAN, f64::INFINITY, f64::NEG_INFINITY, 1e300][r.below(4) as usize];
+    let l = some_lens(p, r);
+    if r.chance(0.4) {
+        t.radial = [l.0, l.1, l.2].map(|x| x as f64);
+    }
+    t
+}
+
+/// 220 calls with a sample without a value, half of them of `ring_lumas`.
+fn without_values() -> Vec<Call> {
+    let (mut o, mut r) = (Vec::new(), Rng(33));
+    while o.len() < 220 {
+        let (p, v, found) = (tiny(&mut r), r.range(1, 3) as u8, skips::found());
+        let call = if o.len() % 2 == 0 { lumas(&p, &broken_map(&p, &mut r), v) } else { search(&p, &broken_quad(&mut r), some_lens(&p, &mut r), v) };
+        if skips::found() > found {
+            o.push(call);
+        }
+    }
+    o
+}
+
+/// Rings of several versions with every corner and direction, wild quads, versions that have no transform; samples without a value.
 fn stored() -> Vec<Call> {
     let mut o = Vec::new();
     let mut r = Rng(9);
@@ -271,5 +330,6 @@ fn stored() -> Vec<Call> {
     for i in 0..60 {
         o.push(search_call(&mut r, 900 + i % 3, 90));
     }
+    o.extend(without_values());
     o
 }

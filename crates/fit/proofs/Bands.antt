@@ -1,19 +1,20 @@
 -- A magnitude held against a limit by two comparisons, and small facts of tests and counts. Assumes nothing.
+--   at-most-is             x ≤ y where y is not below x, of two numbers
 --   abs-le                 |x| ≤ t exactly where −t ≤ x and x ≤ t, for any x and t, a NaN too
 --   and-then, and-stop     a test that is `b && c`, by what b is
 --   then-and, stop-and     a test that is `b && c`, by what c is
 --   small-float            a count of up to 2^24 is an f32
 use mathlib.Core.Path.{_≡_, refl, sym, ap, _∙_}
 use mathlib.Core.Logic.{⊎-elim}
-use mathlib.Core.Bool.{Bool, true, false, _&&_, _||_}
+use mathlib.Core.Bool.{Bool, true, false, not, _&&_, _||_}
 use Prim.Native.Nat.{ℕ, zero, suc, _+_, _*_, _≤_}
 use native.Mathlib.Omega.{arith}
 use native.Mathlib.Decide.{decLt}
 use lib.Dec.{T, ltb, eqb, le→leb}
 use lib.IntN.{pos}
-use lib.Ieee.{Float, nan, inf, fin, up, down, lt, le, eq, neg, binary32, inFloat}
-use borrow.Author.Tests.{ltb-true, eqb-true, lt-ltb, eq-eqb}
-use Rattle.laws.proofs.Bools.{both, and-left, and-right, either, or-left, or-right, bool-ext}
+use lib.Ieee.{Float, nan, inf, fin, below, level, up, down, lt, le, eq, isNan, neg, binary32, inFloat}
+use borrow.Author.Tests.{ltb-true, ltb-false, eqb-true, lt-ltb, le-ltb, eq-eqb}
+use Rattle.laws.proofs.Bools.{both, and-left, and-right, either, or-left, or-right, bool-ext, not-true, clash}
 use Rattle.ieee.specs.Ops.{abs}
 
 -- ---- magnitudes a and b of two numbers
@@ -89,6 +90,45 @@ negative-under a b =
     (λ h. both (zeros b a) (ltb b a || (eqb a b && true)) (both-zeros b a (zeros-second a b h) (zeros-first a b h))
     (or-right (ltb b a) (eqb a b && true) (both (eqb a b) true (and-left (eqb a b) (eqb a 0) h) refl)))
     (λ h. let z = and-left (zeros b a) (ltb b a || (eqb a b && true)) h in both-zeros a b (zeros-second b a z) (zeros-first b a z))
+
+-- ---- at most, and not above
+same-sign : (a b : ℕ) → atMost a b ≡ not (ltb b a)
+same-sign a b =
+    bool-ext (atMost a b) (not (ltb b a)) (λ h. ap not (le-ltb b a (at-most-le a b h)))
+    (λ h. le-at-most a b (ltb-false b a (not-true (ltb b a) h)))
+
+over-under : (a b : ℕ) → zeros a b ≡ not (ltb 0 (b + a))
+over-under a b =
+    bool-ext (zeros a b) (not (ltb 0 (b + a)))
+    (λ h. ap not (le-ltb 0 (b + a) (let p = zeros-first a b h in let q = zeros-second a b h in omega arith)))
+    (λ h. let z = ltb-false 0 (b + a) (not-true (ltb 0 (b + a)) h) in both-zeros a b (omega arith) (omega arith))
+
+swapped : (a b : ℕ) → (ltb b a || (eqb a b && true)) ≡ atMost b a
+swapped a b =
+    ap (λ (z : Bool). ltb b a || (z && true))
+    (bool-ext (eqb a b) (eqb b a) (λ e. eq-eqb b a (sym (eqb-true a b e))) (λ e. eq-eqb a b (sym (eqb-true b a e))))
+
+signs : (s t : Bool) (a b : ℕ) → (below s a t b || level s a t b) ≡ not (below t b s a)
+signs false false a b = same-sign a b
+signs false true a b = over-under a b
+signs true false a b = never a b
+signs true true a b = swapped a b ∙ same-sign b a
+
+-- of two numbers one is at most the other where that is not below it
+pub at-most-is : (x y : Float) → isNan x ≡ false → isNan y ≡ false → le x y ≡ not (lt y x)
+unfolding le lt eq isNan
+at-most-is nan y p q = absurd (clash refl p)
+at-most-is (inf s) nan p q = absurd (clash refl q)
+at-most-is (inf true) (inf true) p q = refl
+at-most-is (inf true) (inf false) p q = refl
+at-most-is (inf false) (inf true) p q = refl
+at-most-is (inf false) (inf false) p q = refl
+at-most-is (inf true) (fin t n d) p q = refl
+at-most-is (inf false) (fin t n d) p q = refl
+at-most-is (fin s m e) nan p q = absurd (clash refl q)
+at-most-is (fin s m e) (inf true) p q = refl
+at-most-is (fin s m e) (inf false) p q = refl
+at-most-is (fin s m e) (fin t n d) p q = signs s t (m * up e * down d) (n * up d * down e)
 
 -- ---- |x| ≤ t
 pub abs-le : (x t : Float) → (le (neg t) x && le x t) ≡ le (abs x) t

@@ -4,4 +4,5 @@ pub mod LumaLists
 pub mod Maps
 pub mod RingReads
 pub mod Searches
+pub mod NanSamples
 pub mod Ends

@@ -1,11 +1,10 @@
 -- Samples, one after the other. Assumes nothing.
---   out-x, out-y, out-wide, out-high   the tests for a place outside the picture, in the code's order
 --   byte-asks, byte-is                 the byte at a place in the picture
 --   sample-out, sample-in              a sum with a place outside, and with one inside
 --   near-float, near-read, point-is    a cell's coordinates as f32, as read back, and its sample
 --   five-is, outer-is, mean-some, mean-none   a cell's five samples, a position's outer cell, the mean
 use mathlib.Core.Path.{_≡_, refl, sym, ap, _∙_, subst}
-use mathlib.Core.Bool.{Bool, true, false, cond, _||_}
+use mathlib.Core.Bool.{Bool, true, false, cond}
 use mathlib.Core.List.{List}
 use Prim.Native.Nat.{ℕ, _+_, _*_, _≤_, _<_}
 use native.Mathlib.Nat.{mul-le-mul}
@@ -28,39 +27,19 @@ use Rattle.fit.specs.F32.{_⊕_, _⊘_, wholeFloat}
 use Rattle.search.specs.Samples.{Photo, NearCell, outside, byteAt, addSample, samplePoint, sampleCell, meanLuma}
 use Rattle.search.specs.Lumas.{noSum, outerSum}
 use Rattle.search.specs.declared.samples.Sum.{Sum}
-use Rattle.search.proofs.Pixels.{inside-x, inside-y}
-
--- ---- outside the picture
-module _ (w h : ℕ) (p : Pixel) where
-  abbrev sides : Bool
-  sides = le (wholeFloat w) (p .x) || le (wholeFloat h) (p .y)
-
-  pub out-x : lt (p .x) 0f ≡ true → true ≡ outside w h p
-  unfolding outside
-  out-x e = sym (ap (λ (b : Bool). b || (lt (p .y) 0f || sides)) e)
-
-  module _ (right : lt (p .x) 0f ≡ false) where
-    past-x : (lt (p .y) 0f || sides) ≡ outside w h p
-    unfolding outside
-    past-x = sym (ap (λ (b : Bool). b || (lt (p .y) 0f || sides)) right)
-
-    pub out-y : lt (p .y) 0f ≡ true → true ≡ outside w h p
-    out-y e = sym (ap (λ (b : Bool). b || sides) e) ∙ past-x
-
-    module _ (down : lt (p .y) 0f ≡ false) where
-      past-y : sides ≡ outside w h p
-      past-y = sym (ap (λ (b : Bool). b || sides) down) ∙ past-x
-
-      pub out-wide : le (wholeFloat w) (p .x) ≡ true → true ≡ outside w h p
-      out-wide e = sym (ap (λ (b : Bool). b || le (wholeFloat h) (p .y)) e) ∙ past-y
-
-      pub out-high : le (wholeFloat w) (p .x) ≡ false → le (wholeFloat h) (p .y) ≡ outside w h p
-      out-high e = sym (ap (λ (b : Bool). b || le (wholeFloat h) (p .y)) e) ∙ past-y
+use Rattle.search.proofs.Pixels.{along-whole, along-x, along-y, inside-x, inside-y}
 
 -- ---- the byte at a place
-module _ (gray : List ℕ) (w h : ℕ) (p : Pixel) (x y : ℕ) (ex : x ≡ toUnsigned 32 (p .x)) (ey : y ≡ toUnsigned 32 (p .y)) where
-  pub byte-asks : Photo gray w h → outside w h p ≡ false → (y * w + x < length gray) × (length gray ≤ 16777216)
-  byte-asks f o =
+module _ (gray : List ℕ) (w h : ℕ) (p : Pixel) (f : Photo gray w h) (o : outside w h p ≡ false) (x y : ℕ) (cx : x ≡ toUnsigned 64 (p .x))
+    (cy : y ≡ toUnsigned 64 (p .y)) where
+  ex : x ≡ toUnsigned 32 (p .x)
+  ex = cx ∙ along-whole w (p .x) (f .wide .1) (along-x w h p o)
+
+  ey : y ≡ toUnsigned 32 (p .y)
+  ey = cy ∙ along-whole h (p .y) (f .high .1) (along-y w h p o)
+
+  pub byte-asks : (y * w + x < length gray) × (length gray ≤ 16777216)
+  byte-asks =
       let a = f .wide in
       let b = f .high in
       let e = f .bytes in

@@ -2,7 +2,7 @@
 -- do not count. Definitions only. Assumes nothing.
 use Prim.Native.Nat.{ℕ, _+_, _*_, _≤_}
 use mathlib.Core.Path.{_≡_}
-use mathlib.Core.Bool.{Bool, cond, _||_}
+use mathlib.Core.Bool.{Bool, cond, not, _&&_}
 use mathlib.Core.List.{List}
 use lib.Ieee.{Float, nan, binary32, lt, le, ofInt, toUnsigned}
 use lib.ListN.{length, getD}
@@ -26,11 +26,15 @@ pub record NearCell (cell : Cell) : Type 0 where
   pub across : InRange (cell .x)
   pub down : InRange (cell .y)
 
--- A place outside the picture: below 0, or at or past a side. A NaN coordinate is neither.
-unfoldable pub outside : ℕ → ℕ → Pixel → Bool
-outside w h p = lt (p .x) 0f || (lt (p .y) 0f || (le (wholeFloat w) (p .x) || le (wholeFloat h) (p .y)))
+-- A coordinate along a side of n pixels: 0 ≤ x < n, so not a NaN. Either zero is 0.
+unfoldable pub along : ℕ → Float → Bool
+along n x = le 0f x && lt x (wholeFloat n)
 
--- The byte at a place, each coordinate cut toward zero. A NaN coordinate counts as 0.
+-- A place outside the picture: not both coordinates are along its sides. So a NaN coordinate is outside.
+unfoldable pub outside : ℕ → ℕ → Pixel → Bool
+outside w h p = not (along w (p .x) && along h (p .y))
+
+-- The byte at a place in the picture, each coordinate cut toward zero.
 unfoldable pub byteAt : List ℕ → ℕ → Pixel → ℕ
 byteAt gray w p = getD gray (toUnsigned 32 (p .y) * w + toUnsigned 32 (p .x)) 0
 

@@ -14,31 +14,26 @@ pub struct Sum {
     pub n: f32,
 }
 
-// Whether a place lies outside the picture. A NaN does not.
+// Whether a place lies outside the picture, as one with a NaN coordinate does.
 fn is_outside(w: usize, h: usize, p: Pixel) -> bool
     requires { ⌜ (w ≤ 4096) × (h ≤ 4096) ⌝ }
     ensures { λ r. ⌜ r ≡ outside w h p ⌝ }
 {
-    if p.x < 0.0 {
-        return true;
-    }
-    if p.y < 0.0 {
-        return true;
-    }
-    if w as f32 <= p.x {
-        return true;
-    }
-    h as f32 <= p.y
+    let low = 0.0 <= p.x;
+    let high = 0.0 <= p.y;
+    let left = p.x < w as f32;
+    let above = p.y < h as f32;
+    !(low & left & (high & above))
 }
 
-// The byte at a place, each coordinate cut toward zero; a NaN coordinate counts as 0.
+// The byte at a place in the picture, each coordinate cut toward zero.
 fn byte_at(gray: &[u8], w: usize, h: usize, p: Pixel) -> u8
     requires { ⌜ Photo (now gray) w h ⌝ }
     requires { ⌜ outside w h p ≡ false ⌝ }
     ensures { λ r. ⌜ r ≡ byteAt (now (gray .entry)) w p ⌝ }
 {
-    let x = ieee::to_u32(p.x) as usize;
-    let y = ieee::to_u32(p.y) as usize;
+    let x = std::num::truncating_f32_to_u64(p.x) as usize;
+    let y = std::num::truncating_f32_to_u64(p.y) as usize;
     gray[y * w + x]
 }
 

@@ -1,44 +1,20 @@
--- `search::samples::is_outside` meets its contract. Assumes nothing.
+-- `search::samples::is_outside` meets its contract: its four tests are those of the definition. Assumes nothing.
+use mathlib.Core.Path.{refl}
 use native.Mathlib.Omega.{arith}
-use Rattle.search.proofs.Sampled.{out-x, out-y, out-wide, out-high}
 use Rattle.fit.proofs.Bands.{small-float}
+use Rattle.search.specs.Samples.{along, outside}
 use Rattle.search.proofs.samples.is_outside.Statement.{statement}
 use Rattle.search.proofs.samples.is_outside.Tie as tie
 
+int-to-float-left : tie.Need-int-to-float-left
+int-to-float-left c = let e = c .before .before .before in small-float (e .args .w) (omega (arith, e .pre))
+
+int-to-float-above : tie.Need-int-to-float-above
+int-to-float-above c = let e = c .before .before .before .before .before in small-float (e .args .h) (omega (arith, e .pre))
+
 returns : tie.Need-returns
-returns c =
-    let a = c .before .before .args in
-    out-x (a .w) (a .h) (a .p) (c .if1 .taken)
-
-returns-2 : tie.Need-returns-2
-returns-2 c =
-    let a = c .before .before .before .before .args in
-    out-y (a .w) (a .h) (a .p) (c .before .before .if1 .left) (c .if2 .taken)
-
-int-to-float-if3 : tie.Need-int-to-float-if3
-int-to-float-if3 c =
-    let z = c .before .before .before .before .before .pre in
-    small-float (c .before .before .before .before .before .args .w) (omega arith)
-
-returns-3 : tie.Need-returns-3
-returns-3 c =
-    let a = c .before .before .before .before .before .before .before .args in
-    out-wide (a .w) (a .h) (a .p) (c .before .before .before .before .before .if1 .left) (c .before .before .before .if2 .left)
-    (c .if3 .taken)
-
-int-to-float-result : tie.Need-int-to-float-result
-int-to-float-result c =
-    let q = c .before .before .before .before .before .before .before .before in
-    let z = q .pre in
-    small-float (q .args .h) (omega arith)
-
-returns-4 : tie.Need-returns-4
-returns-4 c =
-    let q = c .before .before .before .before .before .before .before in
-    let a = q .before .before .args in
-    out-high (a .w) (a .h) (a .p) (q .if1 .left)
-    (c .before .before .before .before .before .if2 .left) (c .before .before .if3 .left)
+unfolding outside along
+returns c = refl
 
 pub is-outside-spec : {M : Type 1} → statement M
-is-outside-spec =
-    tie.close (tie.spec returns returns-2 int-to-float-if3 returns-3 int-to-float-result returns-4)
+is-outside-spec = tie.close (tie.spec int-to-float-left int-to-float-above returns)
