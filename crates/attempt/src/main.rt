@@ -1,4 +1,5 @@
 // Reads an attempt from standard input and writes its trace as text: see crate `attempt_text`.
+#![tactic(auto)]
 ghost use Rattle.word_bytes.specs.Inner.{HasPlaces};
 
 use libc::{STDIN_FILENO, STDOUT_FILENO};

@@ -7,6 +7,7 @@
 // agreement` and eleven f64; `fallback` likewise. Floats are the hex of their bits, a NaN `nan`.
 //
 // At most 1,048,576 pixel bytes; a cut or longer record is `refused 13`.
+#![tactic(auto)]
 ghost use Rattle.std.specs.Prelude.{◌≡◌, ◌≤◌, length, replicate};
 ghost use Rattle.laws.specs.Lent.{Stored};
 ghost use Rattle.word_bytes.specs.Words.{word_at};

@@ -5,6 +5,7 @@
 // A word is a u32: an f32 is its bits, an f64 its low and its high half, an i32 its bits, bytes
 // stand four to a word, lowest first. The answer's first word is 0, or the refusal's number alone.
 // The result is how many words of `out` were written; 0 where the call does not fit its kind.
+#![tactic(auto)]
 
 pub fn call(kind: u32, args: &[u32], out: &mut [u32]) -> usize {
     if kind < 200 {

@@ -5,6 +5,7 @@
 //     103 position v, x, y     0, 1, position or 0, 0    107 is_two_deep p       0, flag
 //     108 the 32 marks of v from p on, lowest bit first  0, marks
 // A position is two words, low half first.
+#![tactic(auto)]
 ghost use Rattle.std.specs.Prelude.{◌≤◌, ◌<◌};
 
 use lcr_core::doors;

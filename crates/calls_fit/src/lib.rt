@@ -10,6 +10,7 @@
 //     807 estimate_lens x, y, some, quad, points..         0, x, y, k
 //     808 undistort x, y, k, points..                      0, points
 // An edge is ax, ay, ux, uy, len. `some` is 0 where there is no bow before, or no quad.
+#![tactic(auto)]
 pub mod answers;
 
 ghost use Rattle.std.specs.Prelude.{◌≡◌, ◌≤◌, length};

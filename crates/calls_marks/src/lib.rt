@@ -2,6 +2,7 @@
 //     700 classify v, m, lumas     0, the m marks, which are lent with every third light
 //     701 the same                 0, the m marks after the call, refused or not
 //     702 correlate v, n, marks    0, score, corner, reversed, the eight counts
+#![tactic(auto)]
 ghost use Rattle.std.specs.Prelude.{◌≡◌, ◌≤◌, ◌<◌, length};
 
 use marks::classify::Classified;

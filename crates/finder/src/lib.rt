@@ -5,6 +5,7 @@
 // together is tried last, since a ring at a large pitch falls into several regions and only all of
 // them have its hull. The first trace with a fix stands, else the one with the greatest score, and
 // its fallback is promoted.
+#![tactic(auto)]
 ghost use Rattle.std.specs.Prelude.{◌≡◌, length};
 ghost use Rattle.laws.specs.Lent.{UntouchedPast};
 ghost use Rattle.picture.specs.Door.{levels_after, labels_after, StackAfter};

@@ -1,5 +1,6 @@
 // A PGM file on standard input, read into a lent list: its header byte by byte, then as many pixels
 // as this asks for. None are read where the header is refused, and no byte past them.
+#![tactic(auto)]
 ghost use Rattle.std.specs.Prelude.{true, ◌≡◌, ◌+◌, ◌*◌, ◌≤◌, length, take};
 ghost use Rattle.pgm.specs.Form.{has_letters};
 ghost use Rattle.tray.specs.Input.{head_read, asked_to, file_to};

@@ -6,6 +6,7 @@
 // else the number of the refusal. On 0 every out-parameter is written, else none is. A
 // list that only the C function has is checked first: 3 where it is too short, and nothing is
 // called then.
+#![tactic(auto)]
 pub mod boxes;
 pub mod cells;
 pub mod equations;

@@ -1,6 +1,7 @@
 // The overlay: a PGM file with sides up to 1,024 on standard input, a colour picture (PPM, P6) on
 // standard output, with what the finder sees drawn over the grey picture: of each kept region its
 // box, its hull and its quad, and of each tag its outline, its first corner and its direction.
+#![tactic(auto)]
 ghost use Rattle.std.specs.Prelude.{◌≡◌, ◌≤◌, length};
 ghost use Rattle.word_bytes.specs.Inner.{HasPlaces};
 ghost use Rattle.tray.specs.Input.{FileAt};

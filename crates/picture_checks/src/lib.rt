@@ -1,4 +1,5 @@
 // The checks of a picture, and of a list of points, that every door that takes one makes first.
+#![tactic(auto)]
 ghost use Rattle.std.specs.Prelude.{◌≡◌};
 ghost use Rattle.picture_checks.specs.Picture.{check_picture, Sides};
 ghost use Rattle.picture_checks.specs.Points.{is_points};

@@ -1,5 +1,6 @@
 // Replays the stored calls of each area (data/AREA, made by the oracle from the Rust's answers) and
 // prints how many there were and how many answers differ.
+#![tactic(auto)]
 ghost use Rattle.std.specs.Prelude.{◌+◌, ◌≤◌, ◌<◌};
 
 use libc::STDOUT_FILENO;

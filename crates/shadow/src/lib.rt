@@ -1,2 +1,3 @@
 // How far a shadow reaches: theorems only.
+#![tactic(auto)]
 pub mod claims;

@@ -1,6 +1,7 @@
 // The tags of a picture: a PGM file with sides up to 2,048 on standard input, a line of text for
 // each tag on standard output. What a refusal means, and that a write failed, stands on standard
 // error.
+#![tactic(auto)]
 ghost use Rattle.std.specs.Prelude.{◌≡◌, ◌≤◌, length};
 ghost use Rattle.word_bytes.specs.Inner.{HasPlaces};
 ghost use Rattle.tag_list.specs.Tags.{tags_by};

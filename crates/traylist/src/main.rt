@@ -1,6 +1,7 @@
 // The tray list: a PGM file or a record on standard input, its listing on standard output. A file's
 // header is read byte by byte, a record's head as ten bytes, then as many pixels as these ask for:
 // none where they are refused, and no byte past the pixels.
+#![tactic(auto)]
 ghost use Rattle.std.specs.Prelude.{◌≡◌, ◌+◌, ◌≤◌, length, take};
 ghost use Rattle.tray.specs.Record.{asked};
 ghost use Rattle.tray.specs.Input.{reads};

@@ -6,6 +6,7 @@
 // Door: `convex_hull`. Refusals, in order: 6, an odd list, or over 16,384 points; 3, the lent list
 // has fewer numbers than the list of points; 21, a coordinate outside 0..8,192. A refusal changes
 // nothing.
+#![tactic(auto)]
 ghost use Rattle.std.specs.Prelude.{◌≡◌, ◌*◌, ◌≤◌, length};
 ghost use Rattle.laws.specs.Lent.{laid};
 ghost use Rattle.hull.specs.Points.{many, numbers_of};
