@@ -17,7 +17,7 @@ use Rattle.laws.proofs.Counts.{count_most, count_no, count_yes}
 use Rattle.laws.proofs.Writes.{at_set}
 use Rattle.laws.specs.Count.{count}
 use Rattle.labels.proofs.Graph.{first-ink, first_of, label-none, label_same, label-first, leader-self, linked-right}
-use Rattle.labels.specs.Labels.{NearGrid, Linked, first?, here, label, leader, near, step}
+use Rattle.labels.specs.Labels.{NearGrid, Linked, first?, here, label, leader, step}
 
 -- The labels given so far are right and at most the last; what is near a cell with a label has one too, unless that cell is `o` or on the
 -- stack; and the stack holds cells of the last label.
