@@ -1,6 +1,7 @@
 // Float helpers that Rattle's floats lack: the f32 root, f64 to f32, abs, max, the total order,
 // finiteness and f32 to whole numbers. IEEE 754-2019 decides each; none has a `requires`.
 #![tactic(auto)]
+
 mod claims;
 mod narrowing;
 mod square_root;

@@ -1,0 +1,34 @@
+-- `ieee::max32` meets its contract: the tests, in their order, fix every condition of `max`. Assumes nothing.
+use Rattle.std.proofs.Common.{true, false, sym, refl, ◌∙◌}
+use Rattle.ieee.proofs.Helpers.{max-by, ne-nan}
+use Rattle.ieee.proofs.Tests.{ne-no-nan}
+use Rattle.ieee.proofs.max32.Goals as goal
+
+pub returns-then-x : goal.returns-then-x
+returns-then-x c = sym (max-by _ _ true _ _ _ _ (ne-nan _ ∙ c.if-x.true) refl refl refl refl)
+
+pub returns-then-y : goal.returns-then-y
+returns-then-y c = sym (max-by _ _ false true _ _ _ (ne-nan _ ∙ c.if-x.false) (ne-nan _ ∙ c.if-y.true) refl refl refl)
+
+pub negative-requires : goal.negative-requires
+negative-requires c = ne-no-nan _ c.if-x.false
+
+pub returns-then-x-y : goal.returns-then-x-y
+returns-then-x-y c =
+    sym (max-by _ _ false false true _ _ (ne-nan _ ∙ c.if-x.false) (ne-nan _ ∙ c.if-y.false)
+    c.if-x-y.true refl refl)
+
+pub returns-then-y-x : goal.returns-then-y-x
+returns-then-y-x c =
+    sym (max-by _ _ false false false true _ (ne-nan _ ∙ c.if-x.false)
+    (ne-nan _ ∙ c.if-y.false) c.if-x-y.false c.if-y-x.true refl)
+
+pub returns-then-negative : goal.returns-then-negative
+returns-then-negative c =
+    sym (max-by _ _ false false false false true (ne-nan _ ∙ c.if-x.false)
+    (ne-nan _ ∙ c.if-y.false) c.if-x-y.false c.if-y-x.false (sym c.negative.ensures ∙ c.if-negative.true))
+
+pub returns-else-negative : goal.returns-else-negative
+returns-else-negative c =
+    sym (max-by _ _ false false false false false (ne-nan _ ∙ c.if-x.false)
+    (ne-nan _ ∙ c.if-y.false) c.if-x-y.false c.if-y-x.false (sym c.negative.ensures ∙ c.if-negative.false))

@@ -1,0 +1,31 @@
+-- `ieee::to_u8` meets its contract: below 0, within, and from 2 ^ 8 on. Assumes nothing.
+use Rattle.std.proofs.Common.{◌≡◌, ℕ, ◌^◌, ◌<◌, sym, ◌∙◌, subst, lit≤}
+use lib.Ieee.{of_bits, to_unsigned}
+use Rattle.ieee.proofs.Helpers.{trunc-in, trunc-over, trunc-none, above_minus_one, below_64, trunc-fits}
+use Rattle.ieee.proofs.to_u8.Goals as goal
+
+is : (c : goal.After-truncating_f32_to_u64) → c.truncating_f32_to_u64.result ≡ to_unsigned 8 c.args.x
+unfolding of_bits
+is c = c.truncating_f32_to_u64.ensures ∙ trunc-in 8 _ (lit≤ tt) c.if-x-2.true
+
+pub truncating_f32_to_u64-requires : goal.truncating_f32_to_u64-requires
+unfolding of_bits
+truncating_f32_to_u64-requires c =
+    record {
+      lower_bound = above_minus_one _ c.if-x.true;
+      upper_bound = below_64 8 _ (lit≤ tt) c.if-x-2.true;
+    }
+
+pub overflow_cast-result : goal.overflow_cast-result
+overflow_cast-result c = record { fits = subst (λ (z : ℕ). z < 2 ^ 8) (sym (is c)) (trunc-fits 8 _) }
+
+pub returns-then-x-2 : goal.returns-then-x-2
+returns-then-x-2 c = is c
+
+pub returns-else-x-2 : goal.returns-else-x-2
+unfolding of_bits
+returns-else-x-2 c = trunc-over 8 _ c.if-x.true c.if-x-2.false
+
+pub returns-else-x : goal.returns-else-x
+unfolding of_bits
+returns-else-x c = trunc-none 8 _ c.if-x.false
