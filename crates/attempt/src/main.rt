@@ -1,8 +1,12 @@
 // Reads an attempt from standard input and writes its trace as text: see crate `attempt_text`.
 #![tactic(auto)]
+
 ghost use Rattle.word_bytes.specs.Inner.{HasPlaces};
 
-use libc::{STDIN_FILENO, STDOUT_FILENO};
+// The numbers of standard input and standard output.
+const STDIN_FILENO: i32 = 0;
+
+const STDOUT_FILENO: i32 = 1;
 
 // Room for the longest record.
 fn room() -> [u8; 1179680]

@@ -1,14 +1,17 @@
 // A PGM file on standard input, read into a lent list: its header byte by byte, then as many pixels
 // as this asks for. None are read where the header is refused, and no byte past them.
 #![tactic(auto)]
+
 ghost use Rattle.std.specs.Prelude.{true, ◌≡◌, ◌+◌, ◌*◌, ◌≤◌, length, take};
 ghost use Rattle.pgm.specs.Form.{has_letters};
 ghost use Rattle.tray.specs.Input.{head_read, asked_to, file_to};
 ghost use Rattle.input.specs.Input.{FileRead, FilePictured};
 
-use libc::STDIN_FILENO;
 use pgm::File;
 use pgm::steps::Reading;
+
+// The number of standard input.
+const STDIN_FILENO: i32 = 0;
 
 // Reads up to n bytes into the places from at on, and answers how many came. What stands before
 // them stays.

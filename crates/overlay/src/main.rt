@@ -2,13 +2,14 @@
 // standard output, with what the finder sees drawn over the grey picture: of each kept region its
 // box, its hull and its quad, and of each tag its outline, its first corner and its direction.
 #![tactic(auto)]
+
 ghost use Rattle.std.specs.Prelude.{◌≡◌, ◌≤◌, length};
 ghost use Rattle.word_bytes.specs.Inner.{HasPlaces};
 ghost use Rattle.tray.specs.Input.{FileAt};
 ghost use Rattle.overlay.specs.Shown.{Shown};
 
-use libc::STDERR_FILENO;
 use pgm::File;
+use refusals::STDERR_FILENO;
 
 mod areas;
 mod draw;

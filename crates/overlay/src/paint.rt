@@ -2,7 +2,8 @@
 ghost use Rattle.std.specs.Prelude.{◌≡◌, ◌+◌, ◌*◌, ◌≤◌, ◌<◌, length};
 ghost use Rattle.overlay.specs.Shown.{Shown};
 
-use libc::STDOUT_FILENO;
+// The number of standard output.
+const STDOUT_FILENO: i32 = 1;
 
 // Colour numbers; 0 is the grey of the picture.
 pub const BOX: u8 = 1;

@@ -1,5 +1,6 @@
 // What the number of a refusal means, told on standard error.
-use libc::STDERR_FILENO;
+// The number of standard error.
+pub const STDERR_FILENO: i32 = 2;
 
 // Writes the words of a refusal.
 fn words(n: u32) {

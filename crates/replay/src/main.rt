@@ -1,11 +1,16 @@
 // Replays the stored calls of each area (data/AREA, made by the oracle from the Rust's answers) and
 // prints how many there were and how many answers differ.
 #![tactic(auto)]
+
 ghost use Rattle.std.specs.Prelude.{◌+◌, ◌≤◌, ◌<◌};
 
-use libc::STDOUT_FILENO;
+use std::fs;
+use std::fs::File;
 
 pub mod record;
+
+// The number of standard output.
+const STDOUT_FILENO: i32 = 1;
 
 // One more where an answer differs.
 fn counted(different: u64, seen: u32) -> u64
@@ -27,11 +32,11 @@ fn print(calls: u64, different: u64) {
 }
 
 // Replays a file, at most a million calls of it.
-fn replay(fd: i32) {
+fn replay(file: &mut File) {
     let mut calls: u64 = 0;
     let mut different: u64 = 0;
     while calls < 1000000 {
-        let seen = record::next(fd);
+        let seen = record::next(file);
         if seen == record::END {
             print(calls, different);
             return;
@@ -43,28 +48,26 @@ fn replay(fd: i32) {
 }
 
 // Replays the file of an area.
-fn area(name: &[u8]) {
-    io::write_all(STDOUT_FILENO, name);
+fn area(rt: &HostRuntime, name: &str) {
+    io::write_all(STDOUT_FILENO, name.as_bytes());
     io::write_all(STDOUT_FILENO, b" ");
-    let fd = os::open_read(name);
-    if fd < 0 {
+    let Ok(mut file) = fs::open(rt, name) else {
         io::write_all(STDOUT_FILENO, b"has no stored calls\n");
         return;
-    }
-    replay(fd);
-    libc::close(fd);
+    };
+    replay(&mut file);
 }
 
-fn main() {
-    area(b"border");
-    area(b"ieee");
-    area(b"math");
-    area(b"transform");
-    area(b"picture");
-    area(b"marks");
-    area(b"fit");
-    area(b"ring");
-    area(b"outline");
-    area(b"attempt");
-    area(b"listing");
+fn main(rt: HostRuntime) {
+    area(&rt, "border");
+    area(&rt, "ieee");
+    area(&rt, "math");
+    area(&rt, "transform");
+    area(&rt, "picture");
+    area(&rt, "marks");
+    area(&rt, "fit");
+    area(&rt, "ring");
+    area(&rt, "outline");
+    area(&rt, "attempt");
+    area(&rt, "listing");
 }

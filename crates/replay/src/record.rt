@@ -2,6 +2,9 @@
 // little-endian: kind, n, m, the n words of the call, the m words of its answer.
 ghost use Rattle.std.specs.Prelude.{◌≡◌, ◌≤◌, length};
 
+use std::fs::File;
+use std::io::Read;
+
 // The file has ended, or a record is cut or too long.
 pub const END: u32 = 0;
 // The answer is the stored one.
@@ -67,15 +70,14 @@ fn same(a: &[u32], b: &[u32]) -> bool {
 }
 
 // Reads as many words as `words` has; whether all of them were there.
-fn read(fd: i32, words: &mut [u32]) -> bool {
+fn read(file: &mut File, words: &mut [u32]) -> bool {
     let n = words.len();
     if MOST < n {
         return false;
     }
     let mut bytes = io::large_buffer();
     let end = 4 * n;
-    let got = io::read_full(fd, &mut bytes[..end]);
-    if got < end {
+    if file.read_exact(&mut bytes[..end]).is_err() {
         return false;
     }
     decode(&bytes[..end], words);
@@ -96,7 +98,7 @@ fn made(kind: u32, args: &[u32], wanted: &[u32]) -> u32 {
 }
 
 // Reads a call of n words and its answer of m words, and makes it.
-fn stored(fd: i32, kind: u32, n: usize, m: usize) -> u32 {
+fn stored(file: &mut File, kind: u32, n: usize, m: usize) -> u32 {
     if MOST < n {
         return END;
     }
@@ -104,21 +106,21 @@ fn stored(fd: i32, kind: u32, n: usize, m: usize) -> u32 {
         return END;
     }
     let mut args = room();
-    if !read(fd, &mut args[..n]) {
+    if !read(file, &mut args[..n]) {
         return END;
     }
     let mut wanted = room();
-    if !read(fd, &mut wanted[..m]) {
+    if !read(file, &mut wanted[..m]) {
         return END;
     }
     made(kind, &args[..n], &wanted[..m])
 }
 
 // The next record of a file: END, SAME or DIFFERENT.
-pub(crate) fn next(fd: i32) -> u32 {
+pub(crate) fn next(file: &mut File) -> u32 {
     let mut head = [0u32; 3];
-    if !read(fd, &mut head) {
+    if !read(file, &mut head) {
         return END;
     }
-    stored(fd, head[0], many(head[1]), many(head[2]))
+    stored(file, head[0], many(head[1]), many(head[2]))
 }

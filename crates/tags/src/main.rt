@@ -2,16 +2,21 @@
 // each tag on standard output. What a refusal means, and that a write failed, stands on standard
 // error.
 #![tactic(auto)]
+
 ghost use Rattle.std.specs.Prelude.{◌≡◌, ◌≤◌, length};
 ghost use Rattle.word_bytes.specs.Inner.{HasPlaces};
 ghost use Rattle.tag_list.specs.Tags.{tags_by};
 ghost use Rattle.tag_text.specs.Lines.{answer_text, filled};
 ghost use Rattle.tags.specs.Taken.{TagsPicture};
 
-use libc::{STDERR_FILENO, STDOUT_FILENO};
 use pgm::File;
 use tag_list::Answer;
 use tag_text::Printed;
+
+// The numbers of standard output and standard error.
+const STDOUT_FILENO: i32 = 1;
+
+const STDERR_FILENO: i32 = 2;
 
 // Room for a file: 4,096 bytes of a header and 2,048 × 2,048 pixels.
 fn file_room() -> [u8; 4198400]

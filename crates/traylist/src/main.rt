@@ -2,12 +2,15 @@
 // header is read byte by byte, a record's head as ten bytes, then as many pixels as these ask for:
 // none where they are refused, and no byte past the pixels.
 #![tactic(auto)]
+
 ghost use Rattle.std.specs.Prelude.{◌≡◌, ◌+◌, ◌≤◌, length, take};
 ghost use Rattle.tray.specs.Record.{asked};
 ghost use Rattle.tray.specs.Input.{reads};
 
 use input::{read_part, read_rest};
-use libc::STDOUT_FILENO;
+
+// The number of standard output.
+const STDOUT_FILENO: i32 = 1;
 
 // How many bytes of pixels a head of n bytes asks for.
 fn pixels_after(bytes: &[u8], n: usize) -> usize
