@@ -15,7 +15,6 @@ use borrow.Author.Tests.{le-ltb, lt-ltb}
 use Rattle.laws.proofs.Bools.{at-or-below, clash, which}
 use Rattle.laws.proofs.Counts.{count_none}
 use Rattle.laws.specs.Count.{count}
-use Rattle.laws.specs.Fold.{first}
 use Rattle.laws.specs.Plane.{value_at}
 use Rattle.regions.proofs.Kept.{order}
 use Rattle.regions.proofs.Select.{first-place, last-place, next_place, nth-is, place-under}

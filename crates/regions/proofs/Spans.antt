@@ -9,15 +9,13 @@ use Prim.Native.Nat.{◌*◌, ◌+◌, ◌<◌, ◌≤◌, min, suc, ℕ}
 use native.Mathlib.Nat.{div-lt_iff_lt-mul, mod-lt, mul_comm}
 use native.Mathlib.Omega.{arith}
 use lib.Dec.{eqb}
-use lib.Ieee.{top}
 use lib.ListN.{get_or, length}
 use Rattle.laws.proofs.Bools.{which}
 use Rattle.laws.proofs.Planes.{counted-row, next_row, place-col, place-row, zero-place}
 use Rattle.levels.specs.Level.{cells}
 use Rattle.regions.proofs.Boxes.{highest-le, highest-no, highest-yes, lowest-le, lowest-no, lowest-yes}
 use Rattle.regions.specs.Boxes.{highest, lowest}
-use Rattle.labels.specs.Labels.{label}
-use Rattle.regions.specs.Inner.{LabelBoxed, Cells, Grown, BoxSmall, cell_column, has, left, region_in, cell_row, size_in}
+use Rattle.regions.specs.Inner.{LabelBoxed, Cells, Grown, BoxSmall, cell_column, has, region_in, cell_row, size_in}
 
 module _ (labels : List ℕ) (l w h : ℕ) where
   boxed-begin : LabelBoxed labels l w h 0 w h 0 0

@@ -1,15 +1,11 @@
 -- Sizes, boxes and kept regions by a list of labels, as the code reads them: `labels` holds the labels of a grid of `ch` rows of `cw`
 -- cells, w and h are the picture's sides. Definitions only. Assumes nothing.
 use Rattle.std.specs.Prelude.{Bool, cond, false, true, List, [], ◌∷◌, ◌≡◌, ◌%◌, ◌*◌, ◌+◌, ◌/◌, ◌<◌, ◌≤◌, max, min, suc, ℕ, eqb, ltb, get_or, length}
-use Rattle.std.specs.Float.Ieee.Order.{kept}
-use borrow.Fn.PlainCycle.{is}
 use Rattle.laws.specs.Count.{count}
 use Rattle.laws.specs.Plane.{value_at}
-use Rattle.levels.specs.Level.{cells}
 use Rattle.regions.specs.Boxes.{highest, lowest}
 use Rattle.regions.specs.Regions.{no_region}
 use Rattle.regions.specs.Kept.{ahead, kept_at, kept_of, want}
-use Rattle.labels.specs.Labels.{label}
 use Rattle.regions.specs.declared.answer.Kept.{Kept}
 use Rattle.regions.specs.declared.answer.Region.{Region}
 

@@ -2,7 +2,6 @@
 use Rattle.std.specs.Prelude.{cond, List, [], ◌∷◌, ℕ, ltb}
 use Rattle.laws.specs.Move.{Box, box_at}
 use Rattle.laws.specs.Plane.{Plane}
-use Rattle.levels.specs.Level.{cells}
 use Rattle.regions.specs.Boxes.{region_box}
 use Rattle.labels.specs.Cells.{groups_of}
 use Rattle.regions.specs.Kept.{kept_count, kept_label, kept_cells}

@@ -2,7 +2,7 @@
 
 // A region: its label, how many region cells it has, and its box in pixels. The box has its left
 // and top pixels; right and bottom are one past the last, and at most the picture's sides.
-#[derive(Drop)]
+#[derive(Clone, Copy)]
 pub struct Region {
     pub label: u32,
     pub cells: u32,
