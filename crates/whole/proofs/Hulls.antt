@@ -133,13 +133,13 @@ mem-at [] i h = absurd (no_lt i h)
 mem-at (p ∷ P) zero h = Memᴰ.head refl
 mem-at (p ∷ P) (suc i) h = Memᴰ.tail (mem-at P i (NatL.le_of_suc-le-suc h))
 
-index_of : (P : List Pt) (p : Pt) → Mem p P → (i : ℕ) × (i < length P) × (pt_at P i ≡ p)
+index_of : (p : Pt) (P : List Pt) → Mem p P → (i : ℕ) × (i < length P) × (pt_at P i ≡ p)
 unfolding pt_at
-index_of P p (Memᴰ.head {xs = xs} e) = (0, pos-len xs, sym e)
+index_of p P (Memᴰ.head {xs = xs} e) = (0, pos-len xs, sym e)
   where
     pos-len : (l : List Pt) → 0 < suc (length l)
     pos-len l = omega arith
-index_of P p (Memᴰ.tail {xs = xs} t) = let r = index_of xs p t in (suc r.0, suc-le-suc r.1, r.2)
+index_of p P (Memᴰ.tail {xs = xs} t) = let r = index_of p xs t in (suc r.0, suc-le-suc r.1, r.2)
 
 -- ---- the hull
 mod< : (a n : ℕ) → 0 < n → a % n < n
@@ -163,7 +163,7 @@ module _ (P : List Pt) (some : 0 < length P) where
   pub start-least : (p : Pt) → Mem p P → LexLe s p
   unfolding start_of
   start-least p m = let r =
-      index_of P p m in subst (λ t. LexLe s t) r.2
+      index_of p P m in subst (λ t. LexLe s t) r.2
       ((least-ok (pt_at P) 0 (range 0 (length P))).1 r.0 (Memᴰ.cast (omega arith) (range-has 0 (length P) r.0 r.1)))
 
   pub start-mem : Mem s P
@@ -176,7 +176,7 @@ module _ (P : List Pt) (some : 0 < length P) where
   unfolding next_of Ext Edge
   next-ok c mc x = (
     mem-at P r r<,
-    λ p m. let q = index_of P p m in
+    λ p m. let q = index_of p P m in
         subst (λ t. Side (pt_at P c) (pt_at P r) t) q.2
         (side-of x.0 (pt_at P c) (pt_at P r) (pt_at P q.0) best_with.at (x.1 _ (mem-at P q.0 q.1))
         (best_with.all q.0 (Memᴰ.cast (omega arith) (range-has 0 (length P) q.0 q.1)))),

@@ -17,7 +17,6 @@ use mathlib.Core.List.{
   Memᴰ,
 }
 use Prim.Native.Nat.{ℕ}
-use lib.Dec.{T}
 use lib.IntN.{ℤ, pos, negsuc}
 use Rattle.whole.proofs.Select.{flip-d}
 use Rattle.whole.specs.Numbers.{◌⊕◌, neg, 𝟘, 𝟙, NN, nn, PP, pp}
@@ -175,18 +174,18 @@ pair-mem (a ∷ l) q m = go (Memᴰ.append_cases (map (λ b. (a, b)) l) m) (λ t
     go (inl t) rec = let r = inl' l t in (Memᴰ.head r.0, Memᴰ.tail r.1)
     go (inr t) rec = let r = rec t in (Memᴰ.tail r.0, Memᴰ.tail r.1)
 
-map-mem : (a : Pt) (l : List Pt) (b : Pt) → Mem b l → Memᴰ {A = Pt × Pt} (a, b) (map (λ b. (a, b)) l)
-map-mem a l b (Memᴰ.head e) = Memᴰ.head (ap (λ t. (a, t)) e)
-map-mem a l b (Memᴰ.tail {xs = xs} t) = Memᴰ.tail (map-mem a xs b t)
+map-mem : (a b : Pt) (l : List Pt) → Mem b l → Memᴰ {A = Pt × Pt} (a, b) (map (λ b. (a, b)) l)
+map-mem a b l (Memᴰ.head e) = Memᴰ.head (ap (λ t. (a, t)) e)
+map-mem a b l (Memᴰ.tail {xs = xs} t) = Memᴰ.tail (map-mem a b xs t)
 
 pub pair-has : (H : List Pt) (u w : Pt) → Mem u H → Mem w H → u ≢ w
     → Memᴰ {A = Pt × Pt} (u, w) (pairs H) ⊎ Memᴰ {A = Pt × Pt} (w, u) (pairs H)
 pair-has [] u w mu mw n = elim mu [ ]
 pair-has (a ∷ l) u w (Memᴰ.head e) (Memᴰ.head e') n = absurd (n (e ∙ sym e'))
 pair-has (a ∷ l) u w (Memᴰ.head e) (Memᴰ.tail t) n =
-    inl (Memᴰ.append_left (pairs l) (subst (λ q. Memᴰ {A = Pt × Pt} (q, w) (map (λ b. (a, b)) l)) (sym e) (map-mem a l w t)))
+    inl (Memᴰ.append_left (pairs l) (subst (λ q. Memᴰ {A = Pt × Pt} (q, w) (map (λ b. (a, b)) l)) (sym e) (map-mem a w l t)))
 pair-has (a ∷ l) u w (Memᴰ.tail t) (Memᴰ.head e) n =
-    inr (Memᴰ.append_left (pairs l) (subst (λ q. Memᴰ {A = Pt × Pt} (q, u) (map (λ b. (a, b)) l)) (sym e) (map-mem a l u t)))
+    inr (Memᴰ.append_left (pairs l) (subst (λ q. Memᴰ {A = Pt × Pt} (q, u) (map (λ b. (a, b)) l)) (sym e) (map-mem a u l t)))
 pair-has (a ∷ l) u w (Memᴰ.tail s) (Memᴰ.tail t) n = go (pair-has l u w s t n)
   where
     go : Memᴰ {A = Pt × Pt} (u, w) (pairs l) ⊎ Memᴰ {A = Pt × Pt} (w, u) (pairs l)

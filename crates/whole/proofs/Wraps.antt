@@ -16,19 +16,19 @@ use Rattle.whole.specs.Hull.{step, select, same_pt, walk, least, start_of, next_
 use Rattle.whole.specs.Walk.{Tests, best_with, lowest_with, next_with, walk_with, hull_with, whole_tests}
 
 module _ (P : List Pt) where
-  best_with-is : (c n : ℕ) (is : List ℕ) → best_with (whole_tests P) c n is ≡ select (pt_at P) (pt_at P c) n is
+  best_with-is : (c : ℕ) (is : List ℕ) (n : ℕ) → best_with (whole_tests P) c n is ≡ select (pt_at P) (pt_at P c) n is
   unfolding best_with select step whole_tests
-  best_with-is c n [] = refl
-  best_with-is c n (i ∷ is) = best_with-is c _ is
+  best_with-is c [] n = refl
+  best_with-is c (i ∷ is) n = best_with-is c is _
 
-  lowest_with-is : (n : ℕ) (is : List ℕ) → lowest_with (whole_tests P) n is ≡ least (pt_at P) n is
+  lowest_with-is : (is : List ℕ) (n : ℕ) → lowest_with (whole_tests P) n is ≡ least (pt_at P) n is
   unfolding lowest_with least whole_tests
-  lowest_with-is n [] = refl
-  lowest_with-is n (i ∷ is) = lowest_with-is _ is
+  lowest_with-is [] n = refl
+  lowest_with-is (i ∷ is) n = lowest_with-is is _
 
   next_with-is : (c : ℕ) → next_with (whole_tests P) (length P) c ≡ next_of P c
   unfolding next_with next_of
-  next_with-is c = best_with-is c ((c + 1) % length P) (range 0 (length P))
+  next_with-is c = best_with-is c (range 0 (length P)) ((c + 1) % length P)
 
   walk_with-is : (s k c : ℕ) → map (pt_at P) (walk_with (whole_tests P) (length P) s k c) ≡ walk (pt_at P) (next_of P) (pt_at P s) k c
   unfolding walk_with walk whole_tests
@@ -50,7 +50,7 @@ module _ (P : List Pt) where
   pub hull_with-is : map (pt_at P) (hull_with (whole_tests P) (length P)) ≡ hull P
   unfolding hull_with hull start_of
   hull_with-is = walk_with-is (lowest_with (whole_tests P) 0 (range 0 (length P))) (length P) (lowest_with (whole_tests P) 0 (range 0 (length P)))
-      ∙ ap (λ t. walk (pt_at P) (next_of P) (pt_at P t) (length P) t) (lowest_with-is 0 (range 0 (length P)))
+      ∙ ap (λ t. walk (pt_at P) (next_of P) (pt_at P t) (length P) t) (lowest_with-is (range 0 (length P)) 0)
 
 -- ---- tests that agree below n wrap alike
 module _ (t u : Tests) (n : ℕ) (some : 0 < n)
