@@ -1,6 +1,7 @@
 // The convex hull of a list of f32 points, x and y alternating, and the quad of a hull: any list,
 // NaN and -0 included.
 #![tactic(auto)]
+
 ghost use Rattle.std.specs.Prelude.{◌≡◌, length};
 ghost use Rattle.hull.specs.Door.{hulled, vertices_after};
 ghost use Rattle.hull.specs.Quad.{quad_floats, values_of};
