@@ -1,6 +1,6 @@
 /* lcr_ring.h: the ring finder for C and C++.
  *
- * Link with liblcr_ring.a, which `rt staticlib lcr_ring` writes to target/staticlib/. Every function is proved
+ * Link with liblcr_ring.a, which `rt lib` in crates/lcr_ring writes to its folder out/. Every function is proved
  * to stay within the memory that it is handed and to end, and the door that it calls is proved to answer what it
  * promises (docs/ARCHITECTURE.md says where). That the function hands this on as said below is proved too: its result,
  * every out-parameter, and what is left of every list. What a function is handed is the caller's affair, so read this

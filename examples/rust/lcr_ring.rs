@@ -2,7 +2,7 @@
 //! step by step; hull and quad of an outline in whole numbers, `whole_outline`; the ink of boxes, `darkness`; PGM files, `pgm_read` and `pgm_write`; proof rings, `draw_ring` and `read_ring`; and
 //! how often noise makes an outline, `rows_without` and `rows_with`.
 //!
-//! Link with liblcr_ring.a (`rt staticlib lcr_ring`). include/lcr_ring.h says what each function takes and gives.
+//! Link with liblcr_ring.a (`rt lib` in crates/lcr_ring makes it). include/lcr_ring.h says what each function takes and gives.
 //! The lists that the doors want are made here, as long as they must be, so that no caller meets a refusal for one.
 
 /// Why a call is refused: the rules' number.
