@@ -1,6 +1,7 @@
 // Darkness of many boxes: a table of running ink counts, filled once, and the number of ink pixels
 // of each box from four reads of it.
 #![tactic(auto)]
+
 ghost use Rattle.std.specs.Prelude.{◌≡◌, length};
 ghost use Rattle.darkness.specs.Door.{check_darkness, table_after, counts_after};
 
