@@ -111,7 +111,7 @@ module _ (w : List Float) where
 
   -- ---- four rounds
   pub stops : (settled_split w).at ≡ split w
-  unfolding settled_split round_of split
+  unfolding settled_split round_of split split_after
   stops = go (settled_after w 1) (settled_after w 2) refl refl
     where
       go : (p q : Bool) → settled_after w 1 ≡ p → settled_after w 2 ≡ q

@@ -78,7 +78,7 @@ round-next w k et ea = ea ∙ ap (split_round w) et
 
 pub split-is : (w : List Float) {m a b c d : Float} → m ≡ split_after w 0 → a ≡ split_round w m → b ≡ split_round w a → c ≡ split_round w b
     → d ≡ split_round w c → d ≡ split w
-unfolding split
+unfolding split split_after
 split-is w em ea eb ec ed = round-next w 3 (round-next w 2 (round-next w 1 (round-next w 0 em ea) eb) ec) ed
 
 -- ---- a round after which no number changes sides

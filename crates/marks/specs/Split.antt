@@ -56,12 +56,13 @@ rounds w (suc k) t = split_round w (rounds w k t)
 unfoldable pub SameSides : List Float → Float → Float → ℕ → Type 0
 SameSides w a b n = (i : ℕ) → i < n → lt a (get_or w i nan) ≡ lt b (get_or w i nan)
 
+-- The split of a window: four rounds from its mean.
+unfoldable pub split : List Float → Float
+split w = rounds w 4 (split_mean w)
+
 -- The split after round k, from the mean on: rounds count from 1. The split of a window is that after four.
 unfoldable pub split_after : List Float → ℕ → Float
 split_after w k = rounds w k (split_mean w)
-
-unfoldable pub split : List Float → Float
-split w = split_after w 4
 
 -- ---- the round at which it has settled
 -- Two splits have the same bits, any NaN as any NaN.

@@ -5,6 +5,7 @@
 // 11, marks or lumas not as many as the version's positions. `split::split_window` splits one window:
 // 9, not 4 to 33 values; 10, a NaN or an infinity among them. No door has a `requires`.
 #![tactic(auto)]
+
 pub mod claims;
 pub mod classify;
 pub mod correlate;
