@@ -125,8 +125,8 @@ pub record Passed (p : List ℕ) : Type 0 where
   pub few : length p ≤ 32768
   pub within : Bounded p
 
-no : (n : ℕ) → suc n ≡ 0 → ⊥
-no n e = omega arith
+suc-not-zero : (n : ℕ) → suc n ≡ 0 → ⊥
+suc-not-zero n e = omega arith
 
 passed : (p : List ℕ) → is_points (length p) ≡ true → coordinates_of p ≡ true → Passed p
 passed p e f = record {
@@ -140,9 +140,9 @@ hull-passed p room e = go (is_points (length p)) refl (leb (length p) room) refl
   where
     go : (a : Bool) → is_points (length p) ≡ a → (b : Bool) → leb (length p) room ≡ b → (d : Bool) → coordinates_of p ≡ d
         → ◌≡◌ {A = ℕ} (or_refuse a 6 (or_refuse b 3 (or_refuse d 21 0))) 0 → Passed p × (length p ≤ room)
-    go false ea b eb d ed z = absurd (no 5 z)
-    go true ea false eb d ed z = absurd (no 2 z)
-    go true ea true eb false ed z = absurd (no 20 z)
+    go false ea b eb d ed z = absurd (suc-not-zero 5 z)
+    go true ea false eb d ed z = absurd (suc-not-zero 2 z)
+    go true ea true eb false ed z = absurd (suc-not-zero 20 z)
     go true ea true eb true ed z = (passed p ea ed, leb-true (length p) room eb)
 
 pub quad-passed : (p : List ℕ) → check_quad p ≡ 0 → Passed p
@@ -150,6 +150,6 @@ quad-passed p e = go (is_points (length p)) refl (coordinates_of p) refl e
   where
     go : (a : Bool) → is_points (length p) ≡ a → (d : Bool) → coordinates_of p ≡ d
         → ◌≡◌ {A = ℕ} (or_refuse a 6 (or_refuse d 21 0)) 0 → Passed p
-    go false ea d ed z = absurd (no 5 z)
-    go true ea false ed z = absurd (no 20 z)
+    go false ea d ed z = absurd (suc-not-zero 5 z)
+    go true ea false ed z = absurd (suc-not-zero 20 z)
     go true ea true ed z = passed p ea ed

@@ -6,6 +6,7 @@
 // fewer numbers than the list of points; 21, a number that is no half of a whole number from 0 to
 // 8,192. A refusal changes nothing.
 #![tactic(auto)]
+
 ghost use Rattle.std.specs.Prelude.{◌≡◌, ◌≤◌, length};
 ghost use Rattle.laws.specs.Lent.{laid};
 ghost use Rattle.doubled.specs.Checks.{coordinates_of};

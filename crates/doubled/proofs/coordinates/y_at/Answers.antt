@@ -1,0 +1,8 @@
+-- `doubled::coordinates::y_at` meets its contract. Assumes nothing.
+use native.Mathlib.Omega.{arith}
+use mathlib.Core.Path.{refl}
+use Prim.Native.Nat.{◌*◌, ◌+◌}
+use Rattle.doubled.proofs.coordinates.y_at.Goals as goal
+
+pub returns : goal.returns
+returns c = (refl, c.requires.bounded (2 * c.args.i + 1) (omega arith))

@@ -1,0 +1,27 @@
+-- `doubled::fill` meets its contract. The loop's invariant: the first k places are written; the measure is how many are left. Assumes nothing.
+use Rattle.doubled.proofs.Twices.{fill_end}
+use Rattle.doubled.specs.Doubled.{twice_of}
+use Rattle.laws.proofs.Folds.{written_none, written_step}
+use lib.Ieee.{nan}
+use lib.ListN.{get_or, length-set}
+use native.Mathlib.Omega.{arith}
+use Prim.Native.Nat.{◌-◌}
+use Rattle.doubled.proofs.fill.Goals as goal
+
+pub loop-k-init : goal.loop-k-init
+loop-k-init c =
+    let a = c.args in
+    (omega arith, mathlib.Core.Path.refl, written_none (λ i. twice_of (get_or a.p.now i nan)) a.out.now)
+
+pub loop-k-preserved : goal.loop-k-preserved
+loop-k-preserved c =
+    let q = c.loop-k in (
+      omega arith,
+      simp length-set q.invariant.1,
+      written_step q.k (λ i. twice_of (get_or c.args.p.now i nan)) c.args.out.now q.invariant.2 c.twice.ensures (omega arith),
+    )
+
+pub returns : goal.returns
+returns c =
+    let q = c.loop-k in
+    fill_end c.args.p.now q.k c.args.out.now q.out q.invariant.2 (omega arith) q.invariant.0

@@ -1,0 +1,19 @@
+-- `doubled::halves` meets its contract. The test of the numbers that are left is that of all; the measure is how many are left. Assumes nothing.
+use Rattle.doubled.proofs.Twices.{half-begin, half_step, half-stop}
+use Rattle.doubled.proofs.Checks.{good-end}
+use Prim.Native.Nat.{◌-◌}
+use Rattle.doubled.proofs.halves.Goals as goal
+
+pub loop-k-init : goal.loop-k-init
+loop-k-init c = half-begin c.args.p.now
+
+pub returns-then-twice-gt8192 : goal.returns-then-twice-gt8192
+returns-then-twice-gt8192 c =
+    half-stop c.args.p.now _ _ _ c.loop-k-test.true c.twice.ensures c.loop-k.invariant c.if-twice-gt8192.true
+
+pub loop-k-preserved : goal.loop-k-preserved
+loop-k-preserved c =
+    half_step c.args.p.now _ _ _ c.loop-k-test.true c.twice.ensures c.loop-k.invariant c.if-twice-gt8192.false
+
+pub returns : goal.returns
+returns c = good-end _ _ _ _ c.loop-k-test.false c.loop-k.invariant
