@@ -6,6 +6,7 @@
 // 0..3 or a side below (version side + 10) times the pitch; at the reading then 11, marks not as
 // many as positions. No door has a `requires`.
 #![tactic(auto)]
+
 ghost use Rattle.std.specs.Prelude.{◌≡◌};
 ghost use Rattle.picture_checks.specs.Picture.{check_picture, Sides};
 ghost use Rattle.lcr_core.specs.Version.{IsVersion};
