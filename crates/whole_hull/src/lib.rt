@@ -7,6 +7,7 @@
 // has fewer numbers than the list of points; 21, a coordinate outside 0..8,192. A refusal changes
 // nothing.
 #![tactic(auto)]
+
 ghost use Rattle.std.specs.Prelude.{◌≡◌, ◌*◌, ◌≤◌, length};
 ghost use Rattle.laws.specs.Lent.{laid};
 ghost use Rattle.hull.specs.Points.{many, numbers_of};

@@ -4,6 +4,7 @@
 // Door: `quad`. Refusals, in order: 6, an odd list, or over 16,384 points; 21, a coordinate outside
 // 0..8,192.
 #![tactic(auto)]
+
 ghost use Rattle.std.specs.Prelude.{◌≡◌};
 ghost use Rattle.whole_quad.specs.Door.{quad_answer};
 
