@@ -1,6 +1,7 @@
 // Equations, as math.rs has them: `solve`, `least_squares`. Its medians are crate `medians`.
 // They are doors: public entries that check what they are given, with no `requires`.
 #![tactic(auto)]
+
 pub mod elimination;
 pub mod equations;
 

@@ -1,0 +1,6 @@
+-- `math::equations::run_copy` meets its contract: two copies, and the run on them. Assumes nothing.
+use Rattle.math.proofs.Samples.{run-copied}
+use Rattle.math.proofs.equations.run_copy.Goals as goal
+
+pub returns : goal.returns
+returns c = run-copied _ _ _ _ _ _ c.copy.ensures c.copy-2.ensures c.run.ensures
