@@ -1,5 +1,6 @@
 // Boundary points of a box of a picture, and the outline door.
 #![tactic(auto)]
+
 ghost use Rattle.std.specs.Prelude.{◌≡◌, length};
 ghost use Rattle.laws.specs.Move.{box_at};
 ghost use Rattle.outline.specs.Door.{outline_answer, outline_after};

@@ -1,0 +1,23 @@
+-- `outline::sweep::none_found` meets its contract. The loop's invariant: none of the first i columns has a run. The measure is n - i.
+-- Assumes nothing.
+use Prim.Native.Nat.{◌<◌}
+use native.Mathlib.Nat.{not-suc-le-zero}
+use native.Mathlib.Omega.{arith}
+use lib.ListN.{get_or}
+use Rattle.laws.proofs.Stores.{below_next}
+use Rattle.outline.proofs.sweep.none_found.Goals as goal
+
+pub loop-i-init : goal.loop-i-init
+loop-i-init c = (omega arith, λ j l. absurd (not-suc-le-zero l))
+
+pub returns-then-run-state : goal.returns-then-run-state
+returns-then-run-state c = λ e. absurd (mathlib.Core.Bool.false≢true e)
+
+pub loop-i-preserved : goal.loop-i-preserved
+loop-i-preserved c =
+    let a = c.args in
+    let q = c.loop-i in
+    (omega arith, below_next (λ j. get_or a.state.now j 0 < a.run) q.i q.invariant.1 (omega arith))
+
+pub returns : goal.returns
+returns c = λ e i l. c.loop-i.invariant.1 i (omega arith)
