@@ -1,6 +1,7 @@
 // Lines drawn into a plane: the pixels of a picture, one byte each, row by row. A line stays inside
 // the picture whatever its ends are.
 #![tactic(auto)]
+
 ghost use Rattle.std.specs.Prelude.{◌&&◌, ◌≡◌, ◌+◌, ◌≤◌, ◌<◌, max, length};
 ghost use Rattle.picture_checks.specs.Picture.{Sides};
 ghost use Rattle.laws.specs.Gap.{gap};

@@ -1,6 +1,7 @@
 // Bytes in words, four to a word, lowest first, as calls by number have them; and room for long
 // lists.
 #![tactic(auto)]
+
 ghost use Rattle.std.specs.Prelude.{◌≡◌, ◌≤◌, length, get_or};
 ghost use Rattle.word_bytes.specs.Inner.{HasPlaces};
 ghost use Rattle.word_bytes.specs.Words.{word_at};

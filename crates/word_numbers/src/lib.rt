@@ -1,5 +1,6 @@
 // Words of calls: numbers from words and words from numbers, and answers of a few words.
 #![tactic(auto)]
+
 pub mod floats;
 
 ghost use Rattle.std.specs.Prelude.{◌≡◌, ◌<◌, ◌≤◌};
