@@ -7,7 +7,7 @@ ghost use Rattle.fit.specs.Line.{axis_of, tls_of, cross_of};
 use hull::points::Point;
 
 // An edge of a quad: where it starts, its unit direction, and its length in pixels.
-#[derive(Drop)]
+#[derive(Clone, Copy)]
 pub struct Edge {
     pub ax: f32,
     pub ay: f32,
@@ -17,7 +17,7 @@ pub struct Edge {
 }
 
 // A line fit: a point of the line in pixels and a unit direction, x y u v; or none.
-#[derive(Drop)]
+#[derive(Clone, Copy)]
 pub enum Line {
     Along(f32, f32, f32, f32),
     NoLine,

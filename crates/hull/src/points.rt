@@ -5,14 +5,14 @@ ghost use Rattle.hull.specs.Hull.{cross_at, d2_at};
 ghost use Rattle.hull.specs.Quad.{values_of};
 
 // A point.
-#[derive(Drop)]
+#[derive(Clone, Copy)]
 pub struct Point {
     pub x: f32,
     pub y: f32,
 }
 
 // A quad: four corners, clockwise with x to the right and y down.
-#[derive(Drop)]
+#[derive(Clone, Copy)]
 pub struct Quad {
     pub a: Point,
     pub b: Point,
