@@ -1,6 +1,7 @@
 // Medians, as math.rs has them: `median`, `mad_sigma`.
 // They are doors: public entries that check what they are given, with no `requires`.
 #![tactic(auto)]
+
 pub mod lists;
 pub mod select;
 
