@@ -59,12 +59,12 @@ both-in p q r s e t f = f ∙ ap (λ (b : Bool). b && q) (sym t ∙ e)
 pub first_out : (p q r : Bool) → r ≡ p → r ≡ false → false ≡ (p && q)
 first_out p q r e t = ap (λ (b : Bool). b && q) (sym t ∙ e)
 
--- a test's answer, taken by its denial
-pub passed : {p t : Bool} → t ≡ p → not t ≡ false → p ≡ true
-passed {p} {t} e f = sym e ∙ not-false t f
+-- what a test's answer tells of the test
+pub passed : {p t : Bool} → t ≡ p → t ≡ true → p ≡ true
+passed e told = sym e ∙ told
 
-pub failed : {p t : Bool} → t ≡ p → not t ≡ true → p ≡ false
-failed {p} {t} e f = sym e ∙ not-true t f
+pub failed : {p t : Bool} → t ≡ p → t ≡ false → p ≡ false
+failed e told = sym e ∙ told
 
 -- ---- one dot
 module _ (w h x y colour : ℕ) (s : List ℕ) where

@@ -12,7 +12,7 @@ pub mod shapes;
 
 // Column and row of an end of a line, each counted from 32,768 before the picture's first: pixel
 // (0, 0) is the spot (32768, 32768).
-#[derive(Drop)]
+#[derive(Clone, Copy)]
 pub struct Spot {
     pub x: u16,
     pub y: u16,
