@@ -3,6 +3,7 @@
 // fails: 17, a shortest run outside 2..8; 22, more than 60 pixels, or a place that is not below
 // their number.
 #![tactic(auto)]
+
 ghost use Rattle.std.specs.Prelude.{◌≡◌};
 ghost use Rattle.noise.specs.Door.{without_answer, with_answer};
 

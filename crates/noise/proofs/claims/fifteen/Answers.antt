@@ -4,12 +4,8 @@ use Rattle.laws.specs.Fold.{first}
 use Rattle.boundary.specs.Runs.{some, every, run_at, in_run, run_start}
 use Rattle.noise.specs.Rows.{rows_counted, is_bare, rows_without}
 use Rattle.noise.specs.Claims.{Fifteen}
-use Rattle.noise.proofs.claims.fifteen.Statement.{statement}
-use Rattle.noise.proofs.claims.fifteen.Tie as tie
+use Rattle.noise.proofs.claims.fifteen.Goals as goal
 
-returns : tie.Need-returns
+pub returns : goal.returns
 unfolding Fifteen rows_without rows_counted is_bare run_start first in_run run_at some every
 returns c = refl
-
-pub fifteen-spec : {M : Type 1} → statement M
-fifteen-spec = tie.close (tie.spec returns)
