@@ -1,6 +1,7 @@
 // Pictures as binary PGM files (Netpbm's P5, maximum value 255): a reader and a writer. `steps`
 // reads a header byte by byte, for who may not read past the pixels.
 #![tactic(auto)]
+
 ghost use Rattle.std.specs.Prelude.{◌≡◌, length};
 ghost use Rattle.pgm.specs.Form.{has_letters};
 ghost use Rattle.pgm.specs.Head.{Passed, pixels_answer};

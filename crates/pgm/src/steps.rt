@@ -5,7 +5,7 @@ ghost use Rattle.pgm.specs.Steps.{begun, is_ended, in_comment, moved_to, one_mor
 use crate::bytes::{is_line_end, next_stage, push};
 
 // How far the header has been read.
-#[derive(Drop)]
+#[derive(Clone, Copy)]
 pub enum Stage {
     // After the letters: white space has to come.
     Letters,
@@ -28,7 +28,7 @@ pub enum Stage {
 }
 
 // What is known of a header of which some bytes have been read.
-#[derive(Drop)]
+#[derive(Clone, Copy)]
 pub struct Reading {
     pub stage: Stage,
     // Whether a comment has begun and not ended.

@@ -1,0 +1,12 @@
+-- `pgm::bytes::is_digit` meets its contract. Assumes nothing.
+use Rattle.pgm.specs.Form.{is_digit}
+use borrow.Author.Tests.{le-leb, lt-leb}
+use Rattle.pgm.proofs.bytes.is_digit.Goals as goal
+
+pub returns-then-b-lt48 : goal.returns-then-b-lt48
+unfolding is_digit
+returns-then-b-lt48 c = rw (lt-leb 48 c.args.b c.if-b-lt48.true)
+
+pub returns : goal.returns
+unfolding is_digit
+returns c = rw (le-leb 48 c.args.b c.if-b-lt48.false)
