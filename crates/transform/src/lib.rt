@@ -1,6 +1,7 @@
 // The transform from module space to pixels, as transform.rs has it: `from_quad`, `with_radial`,
 // `apply`. Every f32 is taken, and none has a `requires`.
 #![tactic(auto)]
+
 mod corners;
 
 ghost use Rattle.std.specs.Prelude.{◌≡◌};

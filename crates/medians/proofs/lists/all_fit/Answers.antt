@@ -23,4 +23,4 @@ returns c =
     let l = c.loop-i in
     let v = c.args.v.now in
     let e = all_end v l.i l.ok (all_usable v) c.loop-i-test.false l.invariant in
-    (e, λ yes. numbers_of v (sym e ∙ yes) c.shared_slice_known-1.given)
+    (e, λ yes. numbers_of v (sym e ∙ yes) c.type_inv.v)
