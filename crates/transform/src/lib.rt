@@ -9,7 +9,7 @@ ghost use Rattle.transform.specs.Mapping.{homography, from_quad, with_radial, gu
 
 // Eight coefficients and three lens numbers, all f64. The pixel of (u, v) is
 // (m0 u + m1 v + m2, m3 u + m4 v + m5) / (m6 u + m7 v + 1), then bent about (cx, cy) by kappa.
-#[derive(Drop)]
+#[derive(Clone, Copy)]
 pub struct Transform {
     pub m0: f64,
     pub m1: f64,
@@ -27,21 +27,21 @@ pub struct Transform {
 }
 
 // A transform, or none.
-#[derive(Drop)]
+#[derive(Clone, Copy)]
 pub enum Mapped {
     None,
     Some(Transform),
 }
 
 // A place in the picture, in pixels.
-#[derive(Drop)]
+#[derive(Clone, Copy)]
 pub struct Pixel {
     pub x: f32,
     pub y: f32,
 }
 
 // A place or an offset in f64, in pixels.
-#[derive(Drop)]
+#[derive(Clone, Copy)]
 pub struct Place {
     pub x: f64,
     pub y: f64,
