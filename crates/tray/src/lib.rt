@@ -1,5 +1,6 @@
 // What the tray list takes: a PGM file where it begins with the letters P5, else a record.
 #![tactic(auto)]
+
 ghost use Rattle.std.specs.Prelude.{◌≡◌};
 ghost use Rattle.tray.specs.Input.{check_input, input_answer};
 
