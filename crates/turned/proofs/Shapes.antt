@@ -41,6 +41,7 @@ sides-le (turned m) w h n a b = let r = sides-le m w h n a b in (r.1, r.0)
 
 -- a point of the list by its point of the plane
 mem-pts : (L : List (ℕ × ℕ)) (q : ℕ × ℕ) → Memᴰ q L → Mem (pt_of q) (pts_of L)
+mem-pts [] q t = elim t [ ]
 mem-pts (r ∷ L) q (Memᴰ.head e) = Memᴰ.head (ap pt_of e)
 mem-pts (r ∷ L) q (Memᴰ.tail t) = Memᴰ.tail (mem-pts L q t)
 
