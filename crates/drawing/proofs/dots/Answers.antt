@@ -1,6 +1,6 @@
 -- `drawing::dots` meets its contract. The loop's invariant: the first k points are drawn. The measure is how many are left.
 -- Assumes nothing.
-use Prim.Native.Nat.{◌-◌, ◌≤◌, ◌<◌}
+use Prim.Native.Nat.{◌≤◌, ◌<◌}
 use native.Mathlib.Omega.{arith}
 use Rattle.drawing.proofs.Dotted.{dotting-begin, dotting-sides, dotting-length, dotting-turn, dotting-end}
 use Rattle.drawing.proofs.dots.Goals as goal
