@@ -6,6 +6,7 @@
 //     108 the 32 marks of v from p on, lowest bit first  0, marks
 // A position is two words, low half first.
 #![tactic(auto)]
+
 ghost use Rattle.std.specs.Prelude.{◌≤◌, ◌<◌};
 
 use lcr_core::doors;

@@ -3,6 +3,7 @@
 //     201 narrowed w  0, bits        204 max32 x, y    0, bits         207 to_u32 x       0, value
 //     202 abs32 x     0, bits        205 is_finite x   0, flag         208 to_u8 x        0, value
 #![tactic(auto)]
+
 use word_numbers::floats;
 
 pub fn answer(kind: u32, args: &[u32], out: &mut [u32]) -> usize {

@@ -3,6 +3,7 @@
 //     701 the same                 0, the m marks after the call, refused or not
 //     702 correlate v, n, marks    0, score, corner, reversed, the eight counts
 #![tactic(auto)]
+
 ghost use Rattle.std.specs.Prelude.{◌≡◌, ◌≤◌, ◌<◌, length};
 
 use marks::classify::Classified;

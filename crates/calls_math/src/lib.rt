@@ -5,6 +5,7 @@
 //     303 mad_sigma values..                       0, the answer; 9; 10
 // At most 2,048 numbers in either list of 300 and 301, at most 5,000 in that of 302 and 303.
 #![tactic(auto)]
+
 ghost use Rattle.std.specs.Prelude.{◌≡◌, ◌≤◌, length};
 
 use math::{Found, Solution};

@@ -1,0 +1,8 @@
+-- `lend` walks the marks. Measure: those left. Assumes nothing.
+use Prim.Native.Nat.{◌-◌}
+use native.Mathlib.Omega.{arith}
+use lib.ListN.{length-set}
+use Rattle.calls_marks.proofs.lend.Goals as goal
+
+pub loop-k-preserved : goal.loop-k-preserved
+loop-k-preserved c = (omega arith, simp length-set (omega arith))
