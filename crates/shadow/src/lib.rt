@@ -1,3 +1,4 @@
 // How far a shadow reaches: theorems only.
 #![tactic(auto)]
+
 pub mod claims;
