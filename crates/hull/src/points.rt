@@ -21,7 +21,7 @@ pub struct Quad {
 }
 
 // A quad, or none.
-#[derive(Drop)]
+#[derive(Clone, Copy)]
 pub enum Corners {
     Found(Quad),
     NoQuad,

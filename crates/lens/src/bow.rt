@@ -5,7 +5,7 @@ ghost use Rattle.lens.specs.Bow.{inlier_of, row_added, sample_of, normal_of, sol
 ghost use Rattle.lens.specs.Bow.{square_in, rss_of, positive_of, first_fit, bow_of, two_fits};
 
 // A bow c0 + c1·t + a·t·(1 − t) in pixels, with the standard error of a: c0 c1 a error; or none.
-#[derive(Drop)]
+#[derive(Clone, Copy)]
 pub enum Bow {
     Fit(f32, f32, f32, f32),
     NoFit,
@@ -13,7 +13,7 @@ pub enum Bow {
 
 // The normal equations of a bow: how many samples count, the sums of the products of 1, t and
 // g = t·(1 − t), and those of their products with o.
-#[derive(Drop)]
+#[derive(Clone, Copy)]
 pub struct Normal {
     pub n: usize,
     pub one: f64,

@@ -12,7 +12,7 @@ use crate::straight::Lens;
 use hull::points::{Corners, Point, Quad};
 
 // What the four edges of a quad tell of the lens.
-#[derive(Drop)]
+#[derive(Clone, Copy)]
 pub struct Slopes {
     pub a: Slope,
     pub b: Slope,

@@ -13,7 +13,7 @@ use hull::points::Point;
 
 // Which way is outward from a centre at an edge: the distance of the edge's line from the centre in
 // pixels, below 0 where its first normal points inward, and the unit normal that points outward.
-#[derive(Drop)]
+#[derive(Clone, Copy)]
 pub struct Side {
     pub h: f32,
     pub nx: f32,
@@ -21,14 +21,14 @@ pub struct Side {
 }
 
 // An edge's own coefficient κ and its standard error, both in pixels to the −2.
-#[derive(Drop)]
+#[derive(Clone, Copy)]
 pub struct Slope {
     pub k: f32,
     pub se: f32,
 }
 
 // What an edge tells of the lens, or nothing.
-#[derive(Drop)]
+#[derive(Clone, Copy)]
 pub enum Measure {
     Bent(Slope),
     Unmeasured,

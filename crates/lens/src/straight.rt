@@ -5,7 +5,7 @@ ghost use Rattle.fit.specs.Select.{KeptIn};
 ghost use Rattle.lens.specs.Straight.{straight_x, straight_y, straight_of};
 
 // A lens: the centre in pixels, and the coefficient κ in pixels to the −2; 0 is no lens.
-#[derive(Drop)]
+#[derive(Clone, Copy)]
 pub struct Lens {
     pub x: f32,
     pub y: f32,
