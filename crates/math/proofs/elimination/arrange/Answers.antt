@@ -1,5 +1,4 @@
 -- `math::elimination::arrange` meets its contract: the same row is left, another one exchanged. Assumes nothing.
-use Prim.Native.Nat.{ℕ, ◌≤◌, ◌<◌, ◌+◌, ◌*◌}
 use native.Mathlib.Omega.{arith}
 use lib.ListN.{length, length-set}
 use Rattle.math.proofs.Eliminations.{row8, arranged-same, arranged-other}

@@ -1,7 +1,7 @@
 -- `math::elimination::back` meets its contract: from the last row to the first.
 -- Invariant: solving the d rows that are left gives the result, and no length changes. Measure: d. Assumes nothing.
 use mathlib.Core.Path.{◌≡◌}
-use Prim.Native.Nat.{◌≤◌, ◌-◌}
+use Prim.Native.Nat.{◌≤◌}
 use lib.ListN.{length}
 use Rattle.math.specs.Elimination.{back_on}
 use Rattle.math.specs.Elimination.{sys}

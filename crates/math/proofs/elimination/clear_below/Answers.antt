@@ -1,7 +1,6 @@
 -- `math::elimination::clear_below` meets its contract. Assumes nothing.
 -- Invariant: eliminating column c from the rows that are left gives what eliminating it from all of them gave. Measure: rows left.
 use mathlib.Core.Path.{sym, ◌∙◌}
-use Prim.Native.Nat.{◌<◌, ◌-◌, ◌+◌, ◌*◌}
 use native.Mathlib.Omega.{arith}
 use lib.ListN.{length}
 use Rattle.math.proofs.Eliminations.{clear-end, clear-turn, place8}

@@ -1,7 +1,6 @@
 -- `math::elimination::forward` meets its contract: column by column.
 -- Invariant: eliminating the columns that are left gives the result, and no length changes. Measure: columns left. Assumes nothing.
 use mathlib.Core.Path.{refl, sym, ◌∙◌}
-use Prim.Native.Nat.{◌<◌, ◌-◌, ◌+◌, ◌*◌}
 use native.Mathlib.Omega.{arith}
 use lib.ListN.{length}
 use Rattle.math.proofs.Eliminations.{place8, forward-none, forward-next, forward-end, forward-start}

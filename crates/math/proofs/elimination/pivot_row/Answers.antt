@@ -2,7 +2,6 @@
 -- Invariant: the greatest of p and the rows that are left is the pivot, and p is a row. Measure: rows left. Assumes nothing.
 use mathlib.Core.Path.{sym, ap, ◌∙◌}
 use mathlib.Core.Bool.{Bool, cond}
-use Prim.Native.Nat.{ℕ, ◌<◌, ◌-◌, ◌+◌, ◌*◌}
 use native.Mathlib.Omega.{arith}
 use lib.ListN.{length}
 use Rattle.math.proofs.Eliminations.{pivot-end, place8, pivot-next}

@@ -1,7 +1,6 @@
 -- `math::elimination::row_less` meets its contract.
 -- Invariant: doing the places that are left gives the result, and the length stays. Measure: places left. Assumes nothing.
 use mathlib.Core.Path.{sym, ◌∙◌}
-use Prim.Native.Nat.{◌-◌}
 use borrow.Author.Rules.{rules}
 use Rattle.math.proofs.Eliminations.{row_step, row-end}
 use Rattle.math.proofs.elimination.row_less.Goals as goal

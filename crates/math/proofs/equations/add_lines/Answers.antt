@@ -1,7 +1,6 @@
 -- `math::equations::add_lines` meets its contract.
 -- Invariant: adding to the rows that are left gives the result, and no length changes. Measure: rows left. Assumes nothing.
 use mathlib.Core.Path.{refl, ◌∙◌}
-use Prim.Native.Nat.{◌-◌}
 use lib.ListN.{length-set}
 use borrow.Author.Rules.{rules}
 use Rattle.math.proofs.Samples.{lines-begin, lines_step, lines_end}

@@ -1,7 +1,7 @@
 -- `math::equations::add_rows` meets its contract.
 -- Invariant: adding the samples that are left gives the result, and no length changes. Measure: samples left. Assumes nothing.
 use mathlib.Core.Path.{refl, ◌∙◌}
-use Prim.Native.Nat.{◌<◌, ◌-◌}
+use Prim.Native.Nat.{◌<◌}
 use native.Mathlib.Omega.{arith}
 use lib.ListN.{length}
 use borrow.Author.Rules.{rules}

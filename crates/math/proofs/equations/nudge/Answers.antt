@@ -1,7 +1,7 @@
 -- `math::equations::nudge` meets its contract.
 -- Invariant: adding to the places that are left gives the result, and the length stays. Measure: places left. Assumes nothing.
 use mathlib.Core.Path.{refl}
-use Prim.Native.Nat.{◌<◌, ◌-◌, ◌+◌, ◌*◌}
+use Prim.Native.Nat.{◌<◌, ◌+◌, ◌*◌}
 use native.Mathlib.Omega.{arith}
 use lib.ListN.{length, length-set}
 use Rattle.math.proofs.Eliminations.{place8}
