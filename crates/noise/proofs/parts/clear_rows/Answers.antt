@@ -1,6 +1,5 @@
 -- `noise::parts::clear_rows` meets its contract. The loop's invariant: the list holds the counts of up to i pixels. The measure is what is
 -- left of n. Assumes nothing.
-use Prim.Native.Nat.{◌-◌}
 use native.Mathlib.Omega.{arith}
 use Rattle.noise.proofs.Filling.{filled-begin, filled_more}
 use Rattle.noise.proofs.parts.clear_rows.Goals as goal
