@@ -2,5 +2,6 @@
 //
 // A result is 0 where there is an answer, 255 where there is none, else the number of the refusal. On 0 every out-parameter is written, else none is.
 #![tactic(auto)]
+
 pub mod maps;
 pub mod solutions;

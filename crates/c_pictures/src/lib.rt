@@ -2,6 +2,7 @@
 //
 // A result is 0 where there is an answer, 255 where there is none, else the number of the refusal. On 0 every out-parameter is written, else none is.
 #![tactic(auto)]
+
 pub mod files;
 pub mod kept;
 pub mod rows;

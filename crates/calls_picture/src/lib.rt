@@ -6,6 +6,7 @@
 // At most 25,600 bytes, 128 places of the grid, 512 of either list. Before the call place k of the
 // grid holds 7k + 3 modulo 256, and that of a list k times 0x9e3779b1 modulo 2^32, made odd.
 #![tactic(auto)]
+
 ghost use Rattle.std.specs.Prelude.{◌≡◌, ◌≤◌, length};
 
 use crate::lists::{lend_bytes, lend_words, put_words};

@@ -5,6 +5,7 @@
 //     402 from_quad src, dst, with_radial cx, cy, kappa, apply u, v
 //                                               0, 1, eleven f64, x, y; 0, 0 for none
 #![tactic(auto)]
+
 use transform::{Mapped, Pixel, Transform};
 use word_numbers::floats;
 
