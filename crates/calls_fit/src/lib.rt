@@ -11,6 +11,7 @@
 //     808 undistort x, y, k, points..                      0, points
 // An edge is ax, ay, ux, uy, len. `some` is 0 where there is no bow before, or no quad.
 #![tactic(auto)]
+
 pub mod answers;
 
 ghost use Rattle.std.specs.Prelude.{◌≡◌, ◌≤◌, length};
