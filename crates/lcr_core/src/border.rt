@@ -11,7 +11,7 @@ use crate::places::{
 use crate::version::Version;
 
 // A cell: signed coordinates in cells, 0 at the symbol's top left.
-#[derive(Drop)]
+#[derive(Clone, Copy)]
 pub struct Cell {
     pub x: i32,
     pub y: i32,

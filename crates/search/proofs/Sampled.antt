@@ -4,7 +4,7 @@
 --   near-float, near-read, point-is    a cell's coordinates as f32, as read back, and its sample
 --   five-is, outer-is, mean-some, mean-none   a cell's five samples, a position's outer cell, the mean
 use Rattle.std.proofs.Common.{◌≡◌, ℕ, ◌+◌, ◌*◌, ◌<◌, ◌≤◌, Bool, true, false, cond, T, List, length, get_or, ℤ, pos, negsuc, sym, refl, ap, ◌∙◌, subst, mul-le-mul, arith, le→leb, lt→ltb, w32, to_z, of_z}
-use lib.Ieee.{Float, nan, binary32, lt, le, div, of_int, of_bits, in_float, to_unsigned}
+use lib.Ieee.{Float, nan, binary32, lt, div, of_int, of_bits, in_float, to_unsigned}
 use Rattle.laws.proofs.Planes.{place-lt}
 use Rattle.ieee.specs.Constants.{0f, 0·3, 0·7, 1f, 0·5}
 use Rattle.transform.specs.Mapping.{applied}

@@ -13,7 +13,7 @@ use marks::correlate::Best;
 use transform::{Mapped, Transform};
 
 // What was read of a version.
-#[derive(Drop)]
+#[derive(Clone, Copy)]
 pub struct Score {
     // 1 to 64
     pub version: u8,
@@ -41,7 +41,7 @@ pub struct Search {
 }
 
 // What is searched for.
-#[derive(Drop)]
+#[derive(Clone, Copy)]
 pub struct Goal {
     pub quad: Quad,
     pub lens: Lens,
