@@ -1,6 +1,7 @@
 // The tray list: the listing of the picture of a PGM file or a record, as text. Everything but
 // reading and writing.
 #![tactic(auto)]
+
 ghost use Rattle.std.specs.Prelude.{◌≡◌, ◌≤◌, length};
 ghost use Rattle.traylist_text.specs.Listing.{text_of, filled};
 
