@@ -1,5 +1,6 @@
 // Which score is a fix: `accept` of the Rust's ring.rs.
 #![tactic(auto)]
+
 ghost use Rattle.std.specs.Prelude.{◌≡◌, ◌<◌, ◌≤◌};
 ghost use Rattle.accept.specs.Accept.{later_of, best_place, other_of, runner_of, at_least, passes_of};
 ghost use Rattle.accept.specs.Accept.{corner_at, turned_of, fixed_by, fix_of, chosen_of, accept_of};

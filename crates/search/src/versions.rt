@@ -26,7 +26,7 @@ pub struct Score {
 }
 
 // Scores in version order: the first `many` places of the list, at most 64; the rest is no score.
-#[derive(Drop)]
+#[derive(Clone, Copy)]
 pub struct Scores {
     pub many: usize,
     pub list: [Score; 64],
