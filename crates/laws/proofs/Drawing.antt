@@ -5,7 +5,6 @@ use mathlib.Core.Path.{◌∙◌, ◌≡◌, refl}
 use Prim.Native.Nat.{◌*◌, ◌+◌, ◌-◌, ◌<◌, ◌≤◌, ℕ}
 use native.Mathlib.Omega.{arith}
 use lib.ListN.{length, length-set, set}
-use borrow.Fn.PlainCycle.{is}
 use Rattle.laws.proofs.Folds.{written_none, written_step}
 use Rattle.laws.proofs.Planes.{counted-col, counted-row, next_row, rowwise-at, zero-place}
 use Rattle.laws.specs.Fold.{written}

@@ -1,5 +1,6 @@
 // The checks of a picture, and of a list of points, that every door that takes one makes first.
 #![tactic(auto)]
+
 ghost use Rattle.std.specs.Prelude.{◌≡◌};
 ghost use Rattle.picture_checks.specs.Picture.{check_picture, Sides};
 ghost use Rattle.picture_checks.specs.Points.{is_points};

@@ -1,6 +1,7 @@
 // Bytes, words and numbers written into a text. Each function takes the place to begin at and gives
 // the place after what it wrote.
 #![tactic(auto)]
+
 ghost use Rattle.std.specs.Prelude.{◌≡◌, [], ◌∷◌, ◌+◌, ◌<◌, ◌≤◌, length};
 ghost use Rattle.laws.specs.Lent.{Stored};
 ghost use Rattle.text.specs.Text.{decimal, last_digits, hex_digit, hex};

@@ -1,5 +1,6 @@
 // The threshold of a dark and a light level, in whole numbers.
 #![tactic(auto)]
+
 ghost use Rattle.std.specs.Prelude.{◌≡◌};
 ghost use Rattle.threshold.specs.Threshold.{threshold};
 

@@ -3,7 +3,7 @@
 use lib.Seq.{length-take-le, take_all}
 use Rattle.laws.proofs.Stores.{stored-length}
 use Rattle.text.proofs.Words.{word_none, word_more}
-use Prim.Native.Nat.{ℕ, ◌-◌}
+use Prim.Native.Nat.{ℕ}
 use native.Mathlib.Omega.{arith}
 use mathlib.Core.List.{List}
 use mathlib.Core.Path.{subst}

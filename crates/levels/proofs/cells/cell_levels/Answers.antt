@@ -3,7 +3,6 @@ use mathlib.Core.Path.{◌∙◌, ap}
 use Prim.Native.Nat.{◌*◌, ◌+◌, ℕ}
 use native.Mathlib.Nat.{mul_comm, mul-le-mul, mul-le-mul_right}
 use native.Mathlib.Omega.{arith}
-use lib.Ieee.{low}
 use Rattle.laws.specs.Plane.{plane}
 use Rattle.levels.proofs.Hist.{bin_small, is-dark, is-light}
 use Rattle.levels.proofs.cells.cell_levels.Goals as goal

@@ -1,6 +1,6 @@
 -- The bins hold the counts of the first j rows of the part; the measure is the rows left. Assumes nothing.
 use mathlib.Core.Path.{◌∙◌, ◌≡◌}
-use Prim.Native.Nat.{◌+◌, ◌-◌, ℕ}
+use Prim.Native.Nat.{◌+◌, ℕ}
 use native.Mathlib.Nat.{mul-le-mul}
 use native.Mathlib.Omega.{arith}
 use lib.ListN.{get_or-replicate, length-take}

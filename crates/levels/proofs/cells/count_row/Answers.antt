@@ -1,6 +1,5 @@
 -- The first i bytes of the row are counted; the measure is the bytes left. Assumes nothing.
 use mathlib.Core.Path.{◌∙◌, ◌≡◌}
-use Prim.Native.Nat.{◌-◌}
 use native.Mathlib.Omega.{arith}
 use lib.ListN.{length}
 use Rattle.levels.proofs.Hist.{count_list-le, count_list-more, count_list-none}

@@ -2,12 +2,11 @@
 use mathlib.Core.Path.{sym}
 use Prim.Native.Nat.{◌+◌, ◌-◌}
 use native.Mathlib.Omega.{arith}
-use lib.Ieee.{sum}
 use borrow.Author.Count.{below_more}
 use Rattle.laws.proofs.Folds.{fold-zero}
 use Rattle.laws.specs.Plane.{value_at}
 use Rattle.levels.proofs.Hist.{high-at, high-none, running}
-use Rattle.levels.specs.Level.{cut, from_top}
+use Rattle.levels.specs.Level.{from_top}
 use Rattle.levels.proofs.cells.high_bin.Goals as goal
 
 pub loop-k-init : goal.loop-k-init

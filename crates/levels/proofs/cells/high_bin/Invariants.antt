@@ -3,7 +3,7 @@ use mathlib.Core.Path.{◌≡◌}
 use Prim.Native.Nat.{◌*◌, ◌+◌, ◌-◌, ◌<◌, ◌≤◌, ℕ}
 use Rattle.laws.specs.Fold.{sum_to}
 use Rattle.laws.specs.Plane.{value_at}
-use Rattle.levels.specs.Level.{cut, from_top}
+use Rattle.levels.specs.Level.{from_top}
 use Rattle.levels.proofs.cells.high_bin.Given as goal
 
 abbrev pub invariant-loop-k : goal.invariant-loop-k

@@ -1,13 +1,11 @@
 -- acc is the count of the bins below b, and no running count before exceeds cut; the measure is the bins left. Assumes nothing.
 use mathlib.Core.Path.{sym}
-use Prim.Native.Nat.{◌+◌, ◌-◌}
+use Prim.Native.Nat.{◌+◌}
 use native.Mathlib.Omega.{arith}
-use lib.Ieee.{sum}
 use borrow.Author.Count.{below_more}
 use Rattle.laws.proofs.Folds.{fold-zero}
 use Rattle.laws.specs.Plane.{value_at}
 use Rattle.levels.proofs.Hist.{low-at, low-none, running}
-use Rattle.levels.specs.Level.{cut}
 use Rattle.levels.proofs.cells.low_bin.Goals as goal
 
 pub loop-b-init : goal.loop-b-init

@@ -3,7 +3,6 @@ use mathlib.Core.Path.{◌≡◌}
 use Prim.Native.Nat.{◌*◌, ◌+◌, ◌-◌, ◌<◌, ◌≤◌, ℕ}
 use Rattle.laws.specs.Fold.{sum_to}
 use Rattle.laws.specs.Plane.{value_at}
-use Rattle.levels.specs.Level.{cut}
 use Rattle.levels.proofs.cells.low_bin.Given as goal
 
 abbrev pub invariant-loop-b : goal.invariant-loop-b

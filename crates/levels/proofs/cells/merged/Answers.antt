@@ -1,6 +1,5 @@
 -- The first i bins hold their sums; the measure is the bins left. Assumes nothing.
 use mathlib.Core.Path.{◌∙◌}
-use Prim.Native.Nat.{◌-◌}
 use native.Mathlib.Omega.{arith}
 use lib.ListN.{length-set}
 use lib.Seq.{get_or-set_other, get_or-set_same}

@@ -1,7 +1,7 @@
 -- The first k cells of next are drawn and bytes, k is in column x and row y, and left is what prev has to the west of it; the measure is
 -- the cells left. Assumes nothing.
 use mathlib.Core.Path.{◌∙◌, ap}
-use Prim.Native.Nat.{◌-◌, ℕ}
+use Prim.Native.Nat.{ℕ}
 use native.Mathlib.Omega.{arith}
 use lib.ListN.{get_or}
 use Rattle.laws.proofs.Drawing.{drawing-begin, drawing-end, drawing-on, drawing-row, drawing-x, drawing-y}

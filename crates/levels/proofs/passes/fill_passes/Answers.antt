@@ -1,5 +1,4 @@
 -- After i turns the grid holds i passes (Filling); the measure is the passes left. Assumes nothing.
-use Prim.Native.Nat.{◌-◌}
 use native.Mathlib.Omega.{arith}
 use Rattle.levels.proofs.Fill.{filling-begin, filling-end, filling-turn}
 use Rattle.levels.proofs.passes.fill_passes.Goals as goal

@@ -1,7 +1,6 @@
 -- A mean of bytes is a byte, and 0 / 0 is 0. Assumes nothing.
 use mathlib.Core.Path.{sym}
 use native.Mathlib.Omega.{arith}
-use lib.Ieee.{fits}
 use Rattle.levels.proofs.Fill.{mean-le, mean-none, nonzero-le}
 use Rattle.levels.specs.Level.{mean}
 use Rattle.levels.proofs.passes.mean_of.Goals as goal

@@ -1,6 +1,6 @@
 -- m is the fold of the first j cells of the window; the measure is the cells left. Assumes nothing.
 use mathlib.Core.Path.{◌∙◌, ◌≡◌, sym}
-use Prim.Native.Nat.{◌+◌, ◌-◌}
+use Prim.Native.Nat.{◌+◌}
 use native.Mathlib.Omega.{arith}
 use Rattle.laws.proofs.Planes.{place-lt}
 use Rattle.laws.specs.Plane.{plane}

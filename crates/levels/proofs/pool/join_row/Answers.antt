@@ -1,6 +1,5 @@
 -- r is the fold of the first i numbers; the measure is the numbers left. Assumes nothing.
 use mathlib.Core.Path.{◌∙◌, ◌≡◌}
-use Prim.Native.Nat.{◌-◌}
 use native.Mathlib.Omega.{arith}
 use lib.ListN.{length}
 use Rattle.laws.proofs.Folds.{fold-suc, fold-zero}

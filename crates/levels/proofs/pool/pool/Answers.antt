@@ -4,7 +4,7 @@ use native.Mathlib.Omega.{arith}
 use Rattle.laws.proofs.Past.{past-written}
 use Rattle.laws.specs.Plane.{plane, rowwise}
 use Rattle.levels.proofs.Pools.{pooled-drawn}
-use Rattle.levels.specs.Inner.{pooled_across, pooled_down}
+use Rattle.levels.specs.Inner.{pooled_across}
 use Rattle.levels.proofs.pool.pool.Goals as goal
 
 pub returns : goal.returns

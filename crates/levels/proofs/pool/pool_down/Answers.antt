@@ -1,5 +1,4 @@
 -- The first k cells of dst are drawn and bytes, and k is in column x and row y; the measure is the cells left. Assumes nothing.
-use Prim.Native.Nat.{◌-◌}
 use native.Mathlib.Omega.{arith}
 use Rattle.laws.proofs.Drawing.{drawing-begin, drawing-end, drawing-on, drawing-row, drawing-x, drawing-y}
 use Rattle.laws.proofs.Writes.{small-step}

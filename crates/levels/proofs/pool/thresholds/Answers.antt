@@ -1,6 +1,5 @@
 -- The first k places hold their thresholds; the measure is the places left. Assumes nothing.
 use mathlib.Core.Path.{◌≡◌, refl}
-use Prim.Native.Nat.{◌-◌}
 use native.Mathlib.Omega.{arith}
 use lib.ListN.{length-set}
 use Rattle.laws.proofs.Folds.{written_none, written_step}
