@@ -14,7 +14,7 @@ use transform::{Mapped, Transform};
 // A located ring: its version, the transform from module space to pixels with orientation and
 // mirror resolved, the fraction of positions that agree, and the corner order: the quad's corner
 // where position 0 is, and whether the ring runs backwards from there.
-#[derive(Drop)]
+#[derive(Clone, Copy)]
 pub struct Fix {
     pub version: u8,
     pub agreement: f32,
@@ -24,7 +24,7 @@ pub struct Fix {
 }
 
 // A located ring, or none.
-#[derive(Drop)]
+#[derive(Clone, Copy)]
 pub enum Fixed {
     At(Fix),
     NoFix,

@@ -5,6 +5,7 @@
 // of points; 7, a coordinate not finite or beyond ±32,768; 8, a greatest version outside 1..64. It
 // has no `requires`.
 #![tactic(auto)]
+
 pub mod attempt;
 pub mod door;
 pub mod quads;

@@ -11,7 +11,7 @@ use lens::straight::Lens;
 use search::versions::{Goal, Scores};
 
 // What an attempt looked at and found.
-#[derive(Drop)]
+#[derive(Clone, Copy)]
 pub struct Trace {
     // vertices of the hull that was searched: of the points, straightened where there is a lens
     pub hull: usize,
