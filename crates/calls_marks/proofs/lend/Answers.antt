@@ -1,5 +1,4 @@
 -- `lend` walks the marks. Measure: those left. Assumes nothing.
-use Prim.Native.Nat.{◌-◌}
 use native.Mathlib.Omega.{arith}
 use lib.ListN.{length-set}
 use Rattle.calls_marks.proofs.lend.Goals as goal

@@ -1,5 +1,4 @@
 -- `pack_words` walks the words. Measure: those left. Assumes nothing.
-use Prim.Native.Nat.{◌-◌}
 use native.Mathlib.Omega.{arith}
 use lib.ListN.{length-set}
 use Rattle.calls_marks.proofs.pack_words.Goals as goal

@@ -1,5 +1,4 @@
 -- `put_counts` walks the eight counts. Measure: those left. Assumes nothing.
-use Prim.Native.Nat.{◌-◌}
 use native.Mathlib.Omega.{arith}
 use lib.ListN.{length-set}
 use Rattle.calls_marks.proofs.put_counts.Goals as goal

@@ -1,5 +1,4 @@
 -- `unpack` walks the marks. Measure: those left. Assumes nothing.
-use Prim.Native.Nat.{◌-◌}
 use native.Mathlib.Omega.{arith}
 use lib.ListN.{length-set}
 use Rattle.calls_marks.proofs.unpack.Goals as goal

@@ -5,7 +5,6 @@ use Rattle.laws.proofs.Folds.{written_none, written_step}
 use lib.Ieee.{nan}
 use lib.ListN.{get_or, length-set}
 use native.Mathlib.Omega.{arith}
-use Prim.Native.Nat.{◌-◌}
 use Rattle.doubled.proofs.fill.Goals as goal
 
 pub loop-k-init : goal.loop-k-init

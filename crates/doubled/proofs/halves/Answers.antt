@@ -1,7 +1,6 @@
 -- `doubled::halves` meets its contract. The test of the numbers that are left is that of all; the measure is how many are left. Assumes nothing.
 use Rattle.doubled.proofs.Twices.{half-begin, half_step, half-stop}
 use Rattle.doubled.proofs.Checks.{good-end}
-use Prim.Native.Nat.{◌-◌}
 use Rattle.doubled.proofs.halves.Goals as goal
 
 pub loop-k-init : goal.loop-k-init

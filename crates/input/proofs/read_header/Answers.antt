@@ -1,7 +1,6 @@
 -- `input::read_header` meets its contract. The loop's invariant: the bytes up to the header's place lead to it. The measure is how far
 -- that place is from 4,096. Assumes nothing.
 use mathlib.Core.Path.{sym, ap, ◌∙◌}
-use Prim.Native.Nat.{◌-◌}
 use native.Mathlib.Omega.{arith}
 use Rattle.pgm.specs.declared.steps.Reading.{Reading}
 use Rattle.pgm.proofs.Counted.{step_counts}

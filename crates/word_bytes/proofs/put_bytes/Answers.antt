@@ -1,7 +1,6 @@
 -- `word_bytes::put_bytes` meets its contract. The invariant: as many words as before. The measure
 -- is what is left of the words. Assumes nothing.
 use native.Mathlib.Omega.{arith}
-use Prim.Native.Nat.{◌-◌}
 use mathlib.Core.Path.{◌∙◌}
 use Rattle.word_bytes.proofs.put_bytes.Goals as goal
 

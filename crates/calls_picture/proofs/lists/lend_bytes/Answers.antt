@@ -1,5 +1,4 @@
 -- The list keeps its length; the measure is the places left. Assumes nothing.
-use Prim.Native.Nat.{◌-◌}
 use native.Mathlib.Omega.{arith}
 use lib.ListN.{length-set}
 use Rattle.calls_picture.proofs.lists.lend_bytes.Goals as goal

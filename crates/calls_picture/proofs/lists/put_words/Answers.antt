@@ -1,6 +1,5 @@
 -- The answer keeps its length; the measure is the words left. Assumes nothing.
 use mathlib.Core.Path.{◌∙◌}
-use Prim.Native.Nat.{◌-◌}
 use native.Mathlib.Omega.{arith}
 use Rattle.calls_picture.proofs.lists.put_words.Goals as goal
 

@@ -1,7 +1,7 @@
 -- `doubled::refusals::coordinates` meets its contract. The loop's invariant (`Past`): none of the numbers so far is counted just where all are
 -- coordinates. The measure is how many are left. Assumes nothing.
 use mathlib.Core.Path.{◌≡◌, refl, sym, ap, ◌∙◌}
-use Prim.Native.Nat.{ℕ, zero, suc, ◌-◌, ◌<◌}
+use Prim.Native.Nat.{ℕ, zero, suc, ◌<◌}
 use native.Mathlib.Omega.{arith}
 use lib.ListN.{length}
 use Rattle.doubled.specs.Checks.{coordinates_on}

@@ -3,7 +3,7 @@
 use Rattle.medians.proofs.Usable.{all-step, all_end, numbers_of}
 use Rattle.medians.specs.Median.{all_usable}
 use lib.ListN.{length}
-use Prim.Native.Nat.{◌-◌, ◌<◌}
+use Prim.Native.Nat.{◌<◌}
 use mathlib.Core.Path.{refl, sym, ◌∙◌}
 use borrow.Author.Rules.{rules}
 use Rattle.medians.proofs.lists.all_fit.Goals as goal

@@ -1,7 +1,7 @@
 -- `medians::lists::distances` meets its contract.
 -- Invariant: the first i places hold the distances, and the length stays. Measure: places left. Assumes nothing.
 use mathlib.Core.Path.{refl, ◌∙◌}
-use Prim.Native.Nat.{ℕ, ◌<◌, ◌-◌}
+use Prim.Native.Nat.{ℕ, ◌<◌}
 use lib.ListN.{length, length-set}
 use lib.Ieee.{nan}
 use borrow.Author.Rules.{rules}

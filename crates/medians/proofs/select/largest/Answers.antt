@@ -1,7 +1,7 @@
 -- `medians::select::largest` meets its contract.
 -- Invariant: m is the largest of the first i values. Measure: values left. Assumes nothing.
 use mathlib.Core.Path.{◌≡◌, subst}
-use Prim.Native.Nat.{ℕ, ◌-◌}
+use Prim.Native.Nat.{ℕ}
 use native.Mathlib.Omega.{arith}
 use borrow.Author.Rules.{rules}
 use Rattle.medians.specs.Inner.{Largest}

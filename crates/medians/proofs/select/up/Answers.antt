@@ -4,7 +4,7 @@ use Rattle.medians.proofs.Partition.{none_between, passed-more, stop-on}
 use Rattle.math.specs.Lists.{number_at}
 use borrow.Author.Rules.{rules}
 use lib.Ieee.{lt}
-use Prim.Native.Nat.{ℕ, ◌-◌}
+use Prim.Native.Nat.{ℕ}
 use mathlib.Core.Bool.{true}
 use mathlib.Core.Path.{◌≡◌}
 use Rattle.medians.proofs.select.up.Goals as goal

@@ -10,7 +10,7 @@ use Rattle.laws.specs.Lent.{Stored}
 use Rattle.traylist_text.specs.Listing.{first_lines}
 use Rattle.laws.specs.Plane.{plane}
 use native.Mathlib.Omega.{arith}
-use Prim.Native.Nat.{ℕ, ◌-◌}
+use Prim.Native.Nat.{ℕ}
 use mathlib.Core.Path.{◌≡◌, subst}
 use Rattle.traylist_text.proofs.describe.all_regions.Goals as goal
 

@@ -5,7 +5,7 @@ use Rattle.traylist_text.proofs.Numbers.{decimal-short, spaced-none, spaced-more
 use Rattle.laws.proofs.Stores.{stored-none, stored-append, stored-ext, stored-length}
 use lib.ListN.{get_or}
 use lib.Seq.{take_all}
-use Prim.Native.Nat.{ℕ, ◌-◌}
+use Prim.Native.Nat.{ℕ}
 use native.Mathlib.Omega.{arith}
 use mathlib.Core.Path.{subst}
 use Rattle.laws.specs.Lent.{Stored}

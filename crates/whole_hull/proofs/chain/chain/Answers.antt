@@ -1,7 +1,6 @@
 -- `whole_hull::chain::chain` meets its contract. The loop's invariant: the stack is the chain of the places below e. The measure is how
 -- many places are left. Assumes nothing.
 use mathlib.Core.Path.{◌∙◌}
-use Prim.Native.Nat.{◌-◌}
 use native.Mathlib.Omega.{arith}
 use Rattle.laws.specs.Lists.{stack_of}
 use Rattle.laws.specs.Plane.{value_at}

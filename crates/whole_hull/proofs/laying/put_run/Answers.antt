@@ -1,7 +1,7 @@
 -- `whole_hull::laying::put_run` meets its contract. The loop's invariant: the first i vertices are stored. The measure is how many are
 -- left. Assumes nothing.
 use mathlib.Core.Path.{◌≡◌, refl, ◌∙◌, subst}
-use Prim.Native.Nat.{ℕ, ◌-◌}
+use Prim.Native.Nat.{ℕ}
 use native.Mathlib.Omega.{arith}
 use Rattle.laws.proofs.Stores.{stored-length}
 use Rattle.laws.specs.Lent.{Stored}

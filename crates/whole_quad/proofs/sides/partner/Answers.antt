@@ -1,7 +1,7 @@
 -- `whole_quad::sides::partner` meets its contract. The loop's invariant: there is a point j, and the fold over the pairs of i with j and
 -- later points finds what the fold over all later ones finds. The measure is the number of points left. Assumes nothing.
 use mathlib.Core.Path.{refl, sym, ap, ◌∙◌}
-use Prim.Native.Nat.{ℕ, ◌-◌}
+use Prim.Native.Nat.{ℕ}
 use native.Mathlib.Omega.{arith}
 use Rattle.hull.specs.Points.{many}
 use Rattle.whole_quad.specs.Inner.{apart, far_from, reach_of}

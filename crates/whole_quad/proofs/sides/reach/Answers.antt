@@ -1,7 +1,7 @@
 -- `whole_quad::sides::reach` meets its contract. The loop's invariant: the fold over the pairs of i with j and later points, from one more
 -- than what is kept, finds the reach. The measure is the number of points left. Assumes nothing.
 use mathlib.Core.Path.{ap, ◌∙◌}
-use Prim.Native.Nat.{ℕ, ◌+◌, ◌-◌}
+use Prim.Native.Nat.{ℕ, ◌+◌}
 use native.Mathlib.Omega.{arith}
 use Rattle.hull.specs.Points.{many}
 use Rattle.whole_quad.specs.Inner.{apart, far_from, reach_of}

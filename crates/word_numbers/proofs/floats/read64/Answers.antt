@@ -1,7 +1,6 @@
 -- `word_numbers::floats::read64` meets its contract. The invariant: as many numbers as before. The measure is what is
 -- left of them. Assumes nothing.
 use lib.ListN.{length-set}
-use Prim.Native.Nat.{◌-◌}
 use borrow.Author.Rules.{rules}
 use Rattle.word_numbers.proofs.floats.read64.Goals as goal
 
