@@ -1,7 +1,7 @@
 -- Bit patterns and NaNs: nan-of, the NaN that a pattern stands for; bits-32, bits-64, the pattern that is written for a NaN.
 -- Assumes nothing.
 use mathlib.Core.Path.{◌≡◌, refl, sym, ap, ◌∙◌}
-use mathlib.Core.Bool.{true, false, true≢false}
+use mathlib.Core.Bool.{true, true≢false}
 use Prim.Native.Nat.{ℕ, ◌%◌, ◌<◌}
 use borrow.Author.Tests.{lt-ltb}
 use lib.Ieee.{Float, nan, inf, fin, binary32, binary64, ne, is_nan, div, of_bits, to_bits}
