@@ -9,6 +9,7 @@
 // At most 25,600 bytes of a picture and 25,640 of a record, 128 levels, 512 labels, 2,048 numbers.
 // Before the call place k of a lent list holds k + 0.25.
 #![tactic(auto)]
+
 ghost use Rattle.std.specs.Prelude.{◌≡◌, ◌≤◌, length};
 
 use outline::Answer;
