@@ -2,7 +2,6 @@
 -- what is left of them. Assumes nothing.
 use lib.ListN.{length-set}
 use native.Mathlib.Omega.{arith}
-use Prim.Native.Nat.{◌-◌}
 use Rattle.calls_outline.proofs.hulls.lend.Goals as goal
 
 pub loop-k-preserved : goal.loop-k-preserved

@@ -1,7 +1,6 @@
 -- `calls_outline::hulls::put_floats` meets its contract. The invariant: as many words as before. The measure is
 -- what is left of the numbers. Assumes nothing.
 use native.Mathlib.Omega.{arith}
-use Prim.Native.Nat.{◌-◌}
 use mathlib.Core.Path.{◌∙◌}
 use Rattle.calls_outline.proofs.hulls.put_floats.Goals as goal
 
