@@ -8,6 +8,7 @@
 //
 // At most 1,048,576 pixel bytes; a cut or longer record is `refused 13`.
 #![tactic(auto)]
+
 ghost use Rattle.std.specs.Prelude.{◌≡◌, ◌≤◌, length, replicate};
 ghost use Rattle.laws.specs.Lent.{Stored};
 ghost use Rattle.word_bytes.specs.Words.{word_at};

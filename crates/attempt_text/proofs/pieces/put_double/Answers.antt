@@ -1,0 +1,26 @@
+-- `attempt_text::pieces::put_double` meets its contract. Assumes nothing.
+use Rattle.attempt_text.proofs.Parts.{nan-stored, hex-stored}
+use Rattle.attempt_text.specs.Traced.{double}
+use Rattle.text.proofs.Decimals.{hex-length}
+use lib.Ieee.{binary64}
+use native.Mathlib.Omega.{arith}
+use Rattle.attempt_text.proofs.pieces.put_double.Goals as goal
+
+pub returns-then-x : goal.returns-then-x
+unfolding double
+returns-then-x c =
+    let u = c.put_word in
+    record {
+      out = nan-stored binary64 16 c.args.x c.put_byte-a.ensures c.if-x.true u.ensures;
+      most = omega (arith, u.ensures.next);
+    }
+
+pub returns : goal.returns
+unfolding double
+returns c =
+    let u = c.put_hex in
+    let b = c.bits64 in
+    record {
+      out = hex-stored binary64 16 c.args.x c.put_byte-a.ensures b.result c.if-x.false b.ensures u.ensures;
+      most = omega (arith, u.ensures.next, hex-length 16 b.result);
+    }
