@@ -7,6 +7,7 @@
 // At most 1,048,576 bytes and 32,770 places of each list. Before the call place k of a working list
 // holds k modulo 1,000.
 #![tactic(auto)]
+
 ghost use Rattle.std.specs.Prelude.{◌+◌, ◌≤◌, length};
 
 use ring::door::{Answer, Outcome};

@@ -8,6 +8,7 @@
 // A score is version, agreement, corner, mirrored. No words where there is no such picture or
 // version, and with fewer than 26 words in 901 and 902.
 #![tactic(auto)]
+
 ghost use Rattle.std.specs.Prelude.{◌≡◌, ◌≤◌, length};
 ghost use Rattle.search.specs.Samples.{Photo};
 
