@@ -6,7 +6,7 @@
 --     the lent lists: number_is, number-given, refused-levels, refused-labels, refused-stack, given-past
 -- Assumes nothing.
 use mathlib.Core.Path.{◌≡◌, refl, sym, ap, ◌∙◌}
-use mathlib.Core.Bool.{Bool, true, false, not}
+use mathlib.Core.Bool.{Bool, true, false}
 use mathlib.Core.List.{List}
 use Prim.Native.Nat.{ℕ, zero, suc, ◌*◌, ◌≤◌}
 use native.Mathlib.Omega.{arith}
@@ -17,7 +17,7 @@ use borrow.Author.Tests.{leb-true, eqb-true, ne_eqb}
 use Rattle.laws.specs.Check.{or_refuse}
 use Rattle.laws.specs.Plane.{plane}
 use Rattle.laws.specs.Lent.{UntouchedPast}
-use Rattle.laws.proofs.Bools.{and_left, and_right, told-true, told-false}
+use Rattle.laws.proofs.Bools.{and_left, and_right}
 use Rattle.picture_checks.specs.Picture.{is_side}
 use Rattle.picture_checks.proofs.Checked.{check-step, side-in}
 use Rattle.lcr_core.specs.Version.{is_version}
@@ -59,22 +59,22 @@ module _ (w h bytes levels labels stack a b c d most : ℕ) (n : ℕ) (e : n ≡
   find-grids z = then-first n (check_grids w h bytes levels labels stack) _ e z
 
   module _ (z : n ≡ 0) (r : Bool) (er : r ≡ has_rooms (need_of w h) a b c d) where
-    pub find-short : not r ≡ true → 3 ≡ check_find w h bytes levels labels stack a b c d most
+    pub find-short : r ≡ false → 3 ≡ check_find w h bytes levels labels stack a b c d most
     find-short t =
         then_next n (check_grids w h bytes levels labels stack) _ 3 e z
-        (refuse-not (has_rooms (need_of w h) a b c d) 3 (or_refuse (is_version most) 8 0) (told-false er t))
+        (refuse-not (has_rooms (need_of w h) a b c d) 3 (or_refuse (is_version most) 8 0) (sym er ∙ t))
 
-    module _ (t : not r ≡ false) (v : Bool) (ev : v ≡ is_version most) where
+    module _ (t : r ≡ true) (v : Bool) (ev : v ≡ is_version most) where
       find-rest : (m : ℕ) → m ≡ or_refuse (is_version most) 8 0 → m ≡ check_find w h bytes levels labels stack a b c d most
       find-rest m em =
           then_next n (check_grids w h bytes levels labels stack) _ m e z
-          (refuse-on (has_rooms (need_of w h) a b c d) 3 (or_refuse (is_version most) 8 0) m (told-true er t) em)
+          (refuse-on (has_rooms (need_of w h) a b c d) 3 (or_refuse (is_version most) 8 0) m (sym er ∙ t) em)
 
-      pub find-version : not v ≡ true → 8 ≡ check_find w h bytes levels labels stack a b c d most
-      find-version x = find-rest 8 (refuse-not (is_version most) 8 0 (told-false ev x))
+      pub find-version : v ≡ false → 8 ≡ check_find w h bytes levels labels stack a b c d most
+      find-version x = find-rest 8 (refuse-not (is_version most) 8 0 (sym ev ∙ x))
 
-      pub find_none : not v ≡ false → 0 ≡ check_find w h bytes levels labels stack a b c d most
-      find_none x = find-rest 0 (refuse-on (is_version most) 8 0 0 (told-true ev x) refl)
+      pub find_none : v ≡ true → 0 ≡ check_find w h bytes levels labels stack a b c d most
+      find_none x = find-rest 0 (refuse-on (is_version most) 8 0 0 (sym ev ∙ x) refl)
 
 -- ---- what an accepted call knows
 pub record Passed (w h bytes levels labels stack a b c d most : ℕ) : Type 0 where

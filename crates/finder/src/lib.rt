@@ -6,6 +6,7 @@
 // them have its hull. The first trace with a fix stands, else the one with the greatest score, and
 // its fallback is promoted.
 #![tactic(auto)]
+
 ghost use Rattle.std.specs.Prelude.{◌≡◌, length};
 ghost use Rattle.laws.specs.Lent.{UntouchedPast};
 ghost use Rattle.picture.specs.Door.{levels_after, labels_after, StackAfter};

@@ -14,7 +14,7 @@ pub struct Region {
 
 // How many regions there are, how many of them are kept (at most 4), and those, largest first. The
 // places past these hold zeros.
-#[derive(Drop)]
+#[derive(Clone, Copy)]
 pub struct Kept {
     pub all: usize,
     pub kept: usize,

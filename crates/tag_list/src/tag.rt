@@ -9,7 +9,7 @@ use lcr_core::version::Version;
 use transform::Transform;
 
 // A tag in a picture.
-#[derive(Drop)]
+#[derive(Clone, Copy)]
 pub struct Tag {
     // version, 1 to 64
     pub version: u8,
@@ -23,7 +23,7 @@ pub struct Tag {
 }
 
 // Up to four tags, the first first, and how many; the places past them hold a tag of version 0.
-#[derive(Drop)]
+#[derive(Clone, Copy)]
 pub struct Tags {
     pub many: usize,
     pub list: [Tag; 4],
