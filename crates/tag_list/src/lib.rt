@@ -3,6 +3,7 @@
 // Every kept region is tried on its own, and each fix is a tag, in the regions' order. Where no
 // region has a fix, the tag is what the finder finds: of all ink together, or by the fallback.
 #![tactic(auto)]
+
 ghost use Rattle.std.specs.Prelude.{◌≡◌, length};
 ghost use Rattle.laws.specs.Lent.{UntouchedPast};
 ghost use Rattle.picture.specs.Door.{levels_after, labels_after, StackAfter};
