@@ -2,6 +2,7 @@
 // fifteen numbers: version, agreement, corner, mirrored, then the transform's eleven; all 0 where
 // there is none. A score is four: version, agreement, corner, mirrored.
 #![tactic(auto)]
+
 ghost use Rattle.std.specs.Prelude.{◌≡◌, ◌+◌, ◌%◌, ◌≤◌, length};
 ghost use Rattle.laws.specs.Fold.{bit};
 ghost use Rattle.laws.specs.Lent.{Stored};

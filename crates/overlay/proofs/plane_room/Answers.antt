@@ -1,0 +1,6 @@
+-- `overlay::plane_room`: so many zeros are as many. Assumes nothing.
+use Rattle.word_bytes.proofs.Places.{same-places}
+use Rattle.overlay.proofs.plane_room.Goals as goal
+
+pub returns : goal.returns
+returns c = same-places 1048576 0
