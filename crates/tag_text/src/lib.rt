@@ -1,6 +1,7 @@
 // The tags of a picture as text, a line for each; and what the numbers of refusals mean, in words.
 // Everything of the program `tags` but reading and writing.
 #![tactic(auto)]
+
 ghost use Rattle.std.specs.Prelude.{◌≡◌, ◌≤◌, [], ◌∷◌, length, replicate};
 ghost use Rattle.text.specs.Text.{line_of, refused_word};
 ghost use Rattle.tag_text.specs.Lines.{answer_text, filled};

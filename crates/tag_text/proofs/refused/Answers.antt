@@ -1,0 +1,10 @@
+-- `tag_text::refused` meets its contract. Assumes nothing.
+use Rattle.std.proofs.Common.{arith}
+use Rattle.tag_text.proofs.Texts.{filled_is}
+use Rattle.tag_text.proofs.refused.Goals as goal
+
+pub returns : goal.returns
+returns c =
+    let t = c.put_refused-end.ensures in
+    let k = filled_is _ c.room-bytes.ensures (omega (arith, t.most)) t.out in
+    record { bytes = k.0; len = k.1.0; most = k.1.1 }
