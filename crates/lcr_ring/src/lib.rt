@@ -7,6 +7,7 @@
 // list that only the C function has is checked first: 3 where it is too short, and nothing is
 // called then.
 #![tactic(auto)]
+
 pub mod boxes;
 pub mod cells;
 pub mod equations;
