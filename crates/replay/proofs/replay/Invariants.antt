@@ -4,7 +4,7 @@ use Prim.Native.Nat.{◌≤◌, ◌-◌}
 use Rattle.replay.proofs.replay.Given as goal
 
 abbrev pub invariant-loop-calls : goal.invariant-loop-calls
-invariant-loop-calls l = l.calls ≤ l.file
+invariant-loop-calls l = l.different ≤ l.calls
 
 abbrev pub decreases-loop-calls : goal.decreases-loop-calls
-decreases-loop-calls l = 1000000 - l.file
+decreases-loop-calls l = 1000000 - l.calls
