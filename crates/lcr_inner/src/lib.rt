@@ -6,6 +6,7 @@
 // numbers of its corners; each working list is at least as long as that of the points. The result
 // is 0 where an answer is given, 255 where there is none or a list does not fit.
 #![tactic(auto)]
+
 use hull::points::{Corners, Point, Quad};
 
 // One entry by its number (see crate `calls`): the words of its answer, first in `out`, and how
