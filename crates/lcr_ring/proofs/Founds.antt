@@ -5,6 +5,7 @@
 --     find-trace, find-regions, tags-many, tags-list   what is given where none fails
 --     find-some, tags-some             a refusal's number is not 0
 --     past_by                          how many places of a list of numbers may be written
+--     lists-after                      the lent lists, by the result
 -- Assumes nothing.
 use mathlib.Core.Path.{◌≡◌, refl, ap, subst}
 use mathlib.Core.List.{List}
@@ -17,9 +18,12 @@ use Rattle.laws.specs.Plane.{plane}
 use Rattle.laws.specs.Said.{result_of}
 use Rattle.laws.proofs.Past.{past_more}
 use Rattle.labels.specs.Cells.{groups_of}
+use Rattle.picture.specs.Door.{levels_after, labels_after, StackAfter}
+use Rattle.region_outline.specs.Region.{need_of}
 use Rattle.ring.specs.declared.door.Outcome.{Outcome}
 use Rattle.ring.specs.declared.door.Outcome.TheVariants.{Given, Refused}
 use Rattle.finder.specs.Find.{number_of, needed_of, trace_of, refused_by, answer_by, find_said}
+use Rattle.finder.proofs.Prepared.{door-levels, door-labels, door-stack}
 use Rattle.tag_list.specs.Tags as tags
 use Rattle.c_pictures.specs.Answers.{after_by}
 
@@ -46,6 +50,37 @@ pub past_by : (o : Outcome) (k n : ℕ) {old new : List Float} → number_of o �
 unfolding number_of needed_of
 past_by Given k n {old} {new} e p = subst (λ (k : ℕ). UntouchedPast (after_by k n 0) old new) e p
 past_by (Refused m) k n e p = past-refused k n p
+
+-- the seven lent lists, and what else is promised
+pub lists-after : (o : Outcome) (k : ℕ) (s : List ℕ) (w h : ℕ) (levels labels stack stack' : List ℕ) {levels' labels' : List ℕ}
+    {a a' b b' c c' d d' : List Float} {X : Type 0} → number_of o ≡ k
+    → (levels' ≡ levels_after (number_of o) s w h levels)
+    × ((labels' ≡ labels_after (number_of o) s w h labels)
+    × (StackAfter (number_of o) w h stack stack'
+    × (UntouchedPast (needed_of o (need_of w h)) a a'
+    × (UntouchedPast (needed_of o (need_of w h)) b b'
+    × (UntouchedPast (needed_of o (need_of w h)) c c'
+    × UntouchedPast (needed_of o (need_of w h)) d d')))))
+    → X
+    → (levels' ≡ levels_after k s w h levels)
+    × ((labels' ≡ labels_after k s w h labels)
+    × (StackAfter k w h stack stack'
+    × (UntouchedPast (after_by k (need_of w h) 0) a a'
+    × (UntouchedPast (after_by k (need_of w h) 0) b b'
+    × (UntouchedPast (after_by k (need_of w h) 0) c c'
+    × (UntouchedPast (after_by k (need_of w h) 0) d d'
+    × X))))))
+lists-after o k s w h levels labels stack stack' {levels'} {labels'} e (l, (m, (t, (p, (q, (r, u)))))) rest =
+    let n = need_of w h in (
+      door-levels s levels levels' w h _ _ e l,
+      (
+        door-labels s labels labels' w h _ _ e m,
+        (
+          door-stack s stack stack' w h _ _ e t,
+          (past_by o k n e p, (past_by o k n e q, (past_by o k n e r, (past_by o k n e u, rest)))),
+        ),
+      ),
+    )
 
 -- ---- the answers
 module _ (gray : List ℕ) (w h most : ℕ) where
