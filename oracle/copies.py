@@ -1,20 +1,21 @@
 #!/usr/bin/env python3
-"""copies.py ROOT FOLDER..: runs of lines that stand in a text file of ROOT and in one of a FOLDER.
+"""copies.py ROOT RUST KIT: runs of lines that stand in a text file of ROOT and in one of the folders of the Rust and of the kit.
 
-A run has LINES or more lines and CHARACTERS or more characters. White space within a line counts as one space. Not counted,
+A run has LINES or more lines, of the kit KIT_LINES, since short laws on the words of its library come out alike; and CHARACTERS or more
+characters. White space within a line counts as one space. Not counted,
 and passed over, are lines
   * without a letter: braces, rules, and numbers alone. The ring table of lcr_core (src/border_seq.rt, specs/Ring.antt) is the
     Rust's, data under its licence (NOTICE);
   * that name modules (`use`, `mod`, `import`, `#include`);
   * that Rattle's check prints or reads in a proof file: a need with its type, the short answers to it, the closing lines.
-Licence texts, and what was built for one machine (target/, and on/ and toolchain/ of the kit), are left out."""
+Licence texts, and what was built for one machine (target/, out/, and the kit's folders of what it has built), are left out."""
 import os, re, sys
 
-LINES, CHARACTERS = 3, 40
-OUT = {".git", "target", "on", "toolchain", "LICENSE-APACHE", "LICENSE-MIT", "UNLICENSE"}
+LINES, KIT_LINES, CHARACTERS = 3, 8, 40
+OUT = {".git", "target", "out", "toolchain", "logic_built", "rlibs", "LICENSE-APACHE", "LICENSE-MIT", "UNLICENSE"}
 NAMES = re.compile(r"((unfoldable )?pub |ghost )*(use|mod|import|from|extern crate|#include)\b")
 NUMBERS = re.compile(r"\b(0x[0-9a-f_]+|\d[\d_]*(u8|u32|usize)?)\b", re.I)
-PRINTED = re.compile(r"\btie\.(Need-|close|spec\b)|→ statement M$|^[\w-]+( \w+)* =( search needs| omega arith)?$|^-- Assumes nothing\.$")
+PRINTED = re.compile(r": goal\.[\w-]+$|^[\w-]+( \w+)* =( search rules| omega arith)?$|^let a = c\.args in$|^-- Assumes nothing\.$|^#!\[tactic\(auto\)\]$")
 
 def counted(path):
     """The lines of a file that count, with their numbers; none of a file that is no text."""
@@ -34,34 +35,37 @@ def files(folder):
             if name not in OUT and not os.path.islink(path):
                 yield path
 
-def run_at(lines, i):
-    return tuple(l for _, l in lines[i:i + LINES])
-
-def main():
-    root, folders = sys.argv[1], sys.argv[2:]
-    others = {path: counted(path) for folder in folders for path in files(folder)}
+def look(root, own, folder, least):
+    """Runs of `least` or more lines of own files that stand in the folder; how many, and how many files the folder has."""
+    others = {path: counted(path) for path in files(folder)}
     where = {}
     for path, lines in others.items():
-        for i in range(len(lines) - LINES + 1):
-            where.setdefault(run_at(lines, i), (path, i))
-    found = own = 0
-    for path in files(root):
-        lines = counted(path)
-        own += bool(lines)
+        for i in range(len(lines) - least + 1):
+            where.setdefault(tuple(l for _, l in lines[i:i + least]), (path, i))
+    found = 0
+    for path, lines in own.items():
         past = 0
-        for i in range(len(lines) - LINES + 1):
-            run = run_at(lines, i)
+        for i in range(len(lines) - least + 1):
+            run = tuple(l for _, l in lines[i:i + least])
             if i < past or run not in where or sum(map(len, run)) < CHARACTERS:
                 continue
             other, j = where[run]
-            theirs, n = others[other], LINES
+            theirs, n = others[other], least
             while i + n < len(lines) and j + n < len(theirs) and lines[i + n][1] == theirs[j + n][1]:
                 n += 1
             past, found = i + n, found + 1
             print(f"{os.path.relpath(path, root)}:{lines[i][0]}: {n} lines that stand at {other}:{theirs[j][0]}")
             print("    " + "\n    ".join(run))
-    read = sum(map(bool, others.values()))
-    print(f"copies: {own} files beside {read} of the Rust and the kit: {found} runs of {LINES} or more equal lines")
-    sys.exit(found > 0)
+    return found, sum(map(bool, others.values()))
+
+
+def main():
+    root, sources, kit = sys.argv[1:]
+    own = {path: counted(path) for path in files(root)}
+    rust, kit = look(root, own, sources, LINES), look(root, own, kit, KIT_LINES)
+    print(f"copies: {sum(map(bool, own.values()))} files beside {rust[1]} of the Rust and {kit[1]} of the kit: {rust[0]} runs of {LINES} or more lines equal to the Rust's, "
+          f"{kit[0]} of {KIT_LINES} or more to the kit's")
+    sys.exit(rust[0] + kit[0] > 0)
+
 
 main()
