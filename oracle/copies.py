@@ -28,7 +28,6 @@ CHANCE = {
     ("crates/noise/proofs/Bare.antt", "never : (b : Bool) → (b && false) ≡ false", 3),
     ("crates/outline/proofs/Cuts.antt", "where", 4),
     ("crates/outline/proofs/Cuts.antt", "and-false : (a : Bool) → (a && false) ≡ false", 3),
-    ("crates/outline/src/sweep.rt", "return false;", 3),
     ("oracle/outside/overlay.py", "return 0", 3),
 }
 

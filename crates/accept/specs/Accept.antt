@@ -1,12 +1,11 @@
 -- Which score is accepted, and the quad in the order that its corner and direction say, as ring.rs has them in `accept`. Definitions only.
 -- Assumes nothing.
-use Rattle.std.specs.Prelude.{ℕ, zero, suc, ◌+◌, ◌-◌, ◌%◌, Bool, false, cond, ◌&&◌, ◌||◌, List, eqb, Float, get_or}
+use Rattle.std.specs.Prelude.{ℕ, zero, suc, ◌+◌, ◌-◌, ◌%◌, Bool, false, cond, ◌&&◌, ◌||◌, List, eqb, Float, get_or, Option, Some, None}
 use Rattle.std.specs.Float.{nan, binary32}
 use Rattle.std.specs.Float.Ieee.{le, of_bits}
 use Rattle.ieee.specs.Ops.{before, max}
 use Rattle.ieee.specs.Constants.{0f, 0·08, 0·2, 0·85}
-use Rattle.transform.specs.declared.Mapped.{Mapped}
-use Rattle.transform.specs.declared.Mapped.TheVariants.{None, Some}
+use Rattle.transform.specs.declared.Transform.{Transform}
 use Rattle.lcr_core.specs.Version.{side_of}
 use Rattle.hull.specs.declared.points.Point.{Point}
 use Rattle.hull.specs.declared.points.Quad.{Quad}
@@ -15,8 +14,7 @@ use Rattle.lens.specs.declared.straight.Lens.{Lens}
 use Rattle.search.specs.Geometry.{transform_of}
 use Rattle.search.specs.declared.versions.Score.{Score}
 use Rattle.search.specs.declared.versions.Scores.{Scores}
-use Rattle.accept.specs.declared.Fixed.{Fixed}
-use Rattle.accept.specs.declared.Fixed.TheVariants.{At, NoFix}
+use Rattle.accept.specs.declared.Fix.{Fix}
 
 -- ---- the best score and the runner-up
 -- What stands past the end of a list of scores.
@@ -84,21 +82,21 @@ turned_of q r mirrored =
 
 -- ---- the fix
 -- A score with a transform as a fix; none without one.
-unfoldable pub fixed_by : Score → Mapped → Fixed
+unfoldable pub fixed_by : Score → Option Transform → Option Fix
 fixed_by s (Some t) =
-    At record { version = s.version; agreement = s.agreement; corner = s.corner; mirrored = s.mirrored; map = t }
-fixed_by s None = NoFix
+    Some record { version = s.version; agreement = s.agreement; corner = s.corner; mirrored = s.mirrored; map = t }
+fixed_by s None = None
 
 -- A score as a fix: the transform onto the corners in its order. Its corner is 0 to 3.
-unfoldable pub fix_of : Quad → Score → Lens → Fixed
+unfoldable pub fix_of : Quad → Score → Lens → Option Fix
 fix_of q s l = fixed_by s (transform_of (turned_of q (s.corner % 4) s.mirrored) (side_of s.version) l)
 
 -- The score at a place as a fix, where it passes with its lead over the greatest score elsewhere.
-unfoldable pub chosen_of : Quad → Scores → ℕ → Lens → Bool → Fixed
+unfoldable pub chosen_of : Quad → Scores → ℕ → Lens → Bool → Option Fix
 chosen_of q s best l relaxed =
     let top = place_at s.list best in
-    cond (passes_of top.agreement (top.agreement ⊖ runner_of s best) relaxed) (fix_of q top l) NoFix
+    cond (passes_of top.agreement (top.agreement ⊖ runner_of s best) relaxed) (fix_of q top l) None
 
 -- The best score as a fix, where it passes; none without a score.
-unfoldable pub accept_of : Quad → Scores → Lens → Bool → Fixed
-accept_of q s l relaxed = cond (eqb s.many 0) NoFix (chosen_of q s (best_place s) l relaxed)
+unfoldable pub accept_of : Quad → Scores → Lens → Bool → Option Fix
+accept_of q s l relaxed = cond (eqb s.many 0) None (chosen_of q s (best_place s) l relaxed)

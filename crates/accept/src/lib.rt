@@ -9,7 +9,7 @@ use hull::points::{Point, Quad};
 use lcr_core::version::Version;
 use lens::straight::Lens;
 use search::versions::{Score, Scores};
-use transform::{Mapped, Transform};
+use transform::Transform;
 
 // A located ring: its version, the transform from module space to pixels with orientation and
 // mirror resolved, the fraction of positions that agree, and the corner order: the quad's corner
@@ -21,13 +21,6 @@ pub struct Fix {
     pub corner: usize,
     pub mirrored: bool,
     pub map: Transform,
-}
-
-// A located ring, or none.
-#[derive(Clone, Copy)]
-pub enum Fixed {
-    At(Fix),
-    NoFix,
 }
 
 // The later of two places, unless its score comes before the other's.
@@ -52,10 +45,8 @@ fn best_of(s: Scores) -> usize
     let list = s.list;
     let many = s.many;
     let mut b = 0usize;
-    let mut k = 1usize;
-    while k < many {
+    for k in 1..many {
         b = later(list, b, k);
-        k += 1;
     }
     b
 }
@@ -80,10 +71,8 @@ pub fn runner_up(s: Scores, best: usize) -> f32
     let list = s.list;
     let many = s.many;
     let mut top = 0.0f32;
-    let mut k = 0usize;
-    while k < many {
+    for k in 0..many {
         top = other(list, best, k, top);
-        k += 1;
     }
     top
 }
@@ -152,14 +141,12 @@ fn turned(q: Quad, r: usize, mirrored: bool) -> Quad
     }
 }
 
-// A score with a transform as a fix.
-fn fixed_by(s: Score, m: Mapped) -> Fixed
+// A score with a transform as a fix; none without one.
+fn fixed_by(s: Score, m: Option<Transform>) -> Option<Fix>
     ensures { result ≡ fixed_by s m }
 {
-    let Mapped::Some(t) = m else {
-        return Fixed::NoFix;
-    };
-    Fixed::At(Fix {
+    let t = m?;
+    Some(Fix {
         version: s.version,
         agreement: s.agreement,
         corner: s.corner,
@@ -169,7 +156,7 @@ fn fixed_by(s: Score, m: Mapped) -> Fixed
 }
 
 // A score as a fix: its corners in order, and the transform onto them.
-fn fix_of(q: Quad, s: Score, l: Lens) -> Fixed
+fn fix_of(q: Quad, s: Score, l: Lens) -> Option<Fix>
     ensures { result ≡ fix_of q s l }
 {
     let z = turned(q, s.corner % 4, s.mirrored);
@@ -178,7 +165,7 @@ fn fix_of(q: Quad, s: Score, l: Lens) -> Fixed
 }
 
 // The score at the best place as a fix, where it passes.
-fn chosen(q: Quad, s: Scores, best: usize, l: Lens, relaxed: bool) -> Fixed
+fn chosen(q: Quad, s: Scores, best: usize, l: Lens, relaxed: bool) -> Option<Fix>
     requires many_bound { s.many ≤ 64 }
     requires best_bound { best < 64 }
     ensures { result ≡ chosen_of q s best l relaxed }
@@ -189,16 +176,16 @@ fn chosen(q: Quad, s: Scores, best: usize, l: Lens, relaxed: bool) -> Fixed
     if passes(top.agreement, lead, relaxed) {
         return fix_of(q, top, l);
     }
-    Fixed::NoFix
+    None
 }
 
 // The best version as a fix, where its score passes.
-pub fn accept(q: Quad, s: Scores, l: Lens, relaxed: bool) -> Fixed
+pub fn accept(q: Quad, s: Scores, l: Lens, relaxed: bool) -> Option<Fix>
     requires { s.many ≤ 64 }
     ensures { result ≡ accept_of q s l relaxed }
 {
     if s.many == 0 {
-        return Fixed::NoFix;
+        return None;
     }
     let best = best_of(s);
     chosen(q, s, best, l, relaxed)

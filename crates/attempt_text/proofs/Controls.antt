@@ -4,7 +4,7 @@ use mathlib.Core.Path.{◌≡◌, refl}
 use mathlib.Core.List.{[], ◌∷◌}
 use lib.Ieee.{nan, binary32, binary64, of_bits, to_bits, is_nan}
 use Rattle.text.specs.Text.{spelt, decimal, hex, hex_digit, spaced, line_of}
-use Rattle.accept.specs.declared.Fixed.TheVariants.{NoFix}
+use Rattle.std.proofs.Common.{None}
 use Rattle.attempt_text.specs.Traced.{single, double, fix_word, fix_text, text_by, text_of}
 
 -- 3f800000, an agreement of 1
@@ -24,7 +24,7 @@ unfolding single is_nan
 no_number = refl
 
 -- fix none
-none-line : fix_text fix_word NoFix ≡ 102 ∷ 105 ∷ 120 ∷ 32 ∷ 110 ∷ 111 ∷ 110 ∷ 101 ∷ 10 ∷ []
+none-line : fix_text fix_word None ≡ 102 ∷ 105 ∷ 120 ∷ 32 ∷ 110 ∷ 111 ∷ 110 ∷ 101 ∷ 10 ∷ []
 unfolding fix_text
 none-line = refl
 

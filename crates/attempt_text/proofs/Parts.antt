@@ -6,12 +6,11 @@ use mathlib.Core.List.{List, [], ◌∷◌, ◌++◌, append_assoc, append-nil}
 use Prim.Native.Nat.{ℕ, ◌+◌, ◌≤◌, ◌<◌}
 use native.Mathlib.Numerals.{add-one}
 use native.Mathlib.Omega.{arith}
-use lib.Ieee.{Float, Format, nan, ne, to_bits}
+use lib.Ieee.{Float, Format, nan, is_nan, to_bits}
 use lib.ListN.{length, get_or, take}
 use lib.Seq.{take-suc, take_all}
 use Rattle.laws.specs.Lent.{Stored}
 use Rattle.laws.proofs.Stores.{stored-none, stored-append, stored-ext}
-use Rattle.ieee.proofs.Helpers.{ne-nan}
 use Rattle.text.specs.Text.{decimal, hex}
 use Rattle.text.proofs.Decimals.{decimal-tens}
 use Rattle.attempt_text.specs.Traced.{nan_word, float, each}
@@ -28,15 +27,15 @@ module _ (f : Format) (digits : ℕ) (x : Float) where
   abbrev by : Bool → List ℕ
   by b = 32 ∷ cond b nan_word (hex digits (to_bits f x))
 
-  pub nan-stored : {at r r' : ℕ} {l l' l'' : List ℕ} → Stored at (32 ∷ []) l l' r → ne x x ≡ true → Stored r nan_word l' l'' r' → Stored at
+  pub nan-stored : {at r r' : ℕ} {l l' l'' : List ℕ} → Stored at (32 ∷ []) l l' r → is_nan x ≡ true → Stored r nan_word l' l'' r' → Stored at
       (float f digits x) l l'' r'
-  nan-stored v e u = stored-ext (32 ∷ nan_word) (float f digits x) (ap by (sym (ne-nan x ∙ e))) (stored-append v u)
+  nan-stored v e u = stored-ext (32 ∷ nan_word) (float f digits x) (ap by (sym e)) (stored-append v u)
 
-  pub hex-stored : {at r r' : ℕ} {l l' l'' : List ℕ} → Stored at (32 ∷ []) l l' r → (n : ℕ) → ne x x ≡ false → n ≡ to_bits f x
+  pub hex-stored : {at r r' : ℕ} {l l' l'' : List ℕ} → Stored at (32 ∷ []) l l' r → (n : ℕ) → is_nan x ≡ false → n ≡ to_bits f x
       → Stored r (hex digits n) l' l'' r' → Stored at (float f digits x) l l'' r'
   hex-stored v n e same u =
       stored-ext (32 ∷ hex digits n) (float f digits x)
-      (ap (λ (m : ℕ). 32 ∷ hex digits m) same ∙ ap by (sym (ne-nan x ∙ e))) (stored-append v u)
+      (ap (λ (m : ℕ). 32 ∷ hex digits m) same ∙ ap by (sym e)) (stored-append v u)
 
 -- ---- floats one after the other
 each_append : (f : Float → List ℕ) (a b : List Float) → each f (a ++ b) ≡ each f a ++ each f b

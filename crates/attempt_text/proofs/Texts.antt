@@ -3,28 +3,24 @@
 use mathlib.Core.Path.{◌≡◌, refl, sym, ap, ◌∙◌}
 use mathlib.Core.List.{List, [], ◌∷◌, ◌++◌, append-nil}
 use Prim.Native.Nat.{ℕ, ◌+◌}
+use Rattle.std.proofs.Common.{Option, Some, None, Result, Ok, Err}
 use Rattle.laws.specs.Fold.{joined, bit}
+use Rattle.refusal.specs.Numbers.{number_of, said}
+use Rattle.refusal.specs.declared.Refusal.{Refusal}
 use Rattle.laws.specs.Lent.{Stored}
 use Rattle.laws.proofs.Joined.{joined-more}
 use Rattle.laws.proofs.Stores.{stored-none, stored-append, stored-ext}
 use Rattle.text.specs.Text.{spaced, line_of, refused_word, quad_word, none_word}
 use Rattle.hull.specs.Quad.{values_of}
 use Rattle.hull.specs.declared.points.Quad.{Quad}
-use Rattle.hull.specs.declared.points.Corners.{Corners}
-use Rattle.hull.specs.declared.points.Corners.TheVariants.{Found, NoQuad}
 use Rattle.search.specs.declared.versions.Score.{Score}
 use Rattle.search.specs.declared.versions.Scores.{Scores}
 use Rattle.accept.specs.Accept.{place_at}
 use Rattle.accept.specs.declared.Fix.{Fix}
-use Rattle.accept.specs.declared.Fixed.{Fixed}
-use Rattle.accept.specs.declared.Fixed.TheVariants.{At, NoFix}
 use Rattle.ring.specs.declared.quads.Trace.{Trace}
-use Rattle.ring.specs.declared.door.Answer.{Answer}
-use Rattle.ring.specs.declared.door.Outcome.{Outcome}
-use Rattle.ring.specs.declared.door.Outcome.TheVariants.{Given, Refused}
 use Rattle.attempt_text.specs.Traced.{hull_word, scores_word, score_word, fix_word, fallback_word, no_fix_word, number, single, each, end}
 use Rattle.attempt_text.specs.Traced.{quad_text, score_line, score_lines, scores_text, ring_text, fix_text, trace_text}
-use Rattle.attempt_text.specs.Traced.{outcome_text, answer_text}
+use Rattle.attempt_text.specs.Traced.{answer_text}
 
 -- ---- a word and a number
 pub counted-stored : {at a b e : ℕ} {l l' l'' l''' : List ℕ} (word : List ℕ) (n : ℕ) → Stored at word l l' a → Stored a (number n) l' l'' b
@@ -39,18 +35,18 @@ counted-stored word n v u x =
 pub found-quad : {at a b e : ℕ} {l l' l'' l''' : List ℕ} (q : Quad) → Stored at quad_word l l' a
     → Stored a
     (each single (q.a.x ∷ q.a.y ∷ q.b.x ∷ q.b.y ∷ q.c.x ∷ q.c.y ∷ q.d.x ∷ q.d.y ∷ [])) l' l'' b
-    → Stored b end l'' l''' e → Stored at (quad_text (Found q)) l l''' e
+    → Stored b end l'' l''' e → Stored at (quad_text (Some q)) l l''' e
 unfolding quad_text values_of
 found-quad q v u x = stored-append v (stored-append u x)
 
-module _ {at e : ℕ} {l l' : List ℕ} (c : Corners) where
-  pub some-corners : (q : Quad) → c ≡ Found q → Stored at (quad_text (Found q)) l l' e → Stored at (quad_text c) l l' e
-  some-corners q z v = stored-ext (quad_text (Found q)) (quad_text c) (ap quad_text (sym z)) v
+module _ {at e : ℕ} {l l' : List ℕ} (c : Option Quad) where
+  pub some-corners : (q : Quad) → c ≡ Some q → Stored at (quad_text (Some q)) l l' e → Stored at (quad_text c) l l' e
+  some-corners q z v = stored-ext (quad_text (Some q)) (quad_text c) (ap quad_text (sym z)) v
 
-  pub no-corners : c ≡ NoQuad → Stored at (none_word ++ end) l l' e → Stored at (quad_text c) l l' e
+  pub no-corners : c ≡ None → Stored at (none_word ++ end) l l' e → Stored at (quad_text c) l l' e
   no-corners z v = stored-ext (none_word ++ end) (quad_text c) (none ∙ ap quad_text (sym z)) v
     where
-      none : none_word ++ end ≡ quad_text NoQuad
+      none : none_word ++ end ≡ quad_text None
       none = unfold quad_text line_of spaced in refl
 
 -- ---- scores
@@ -80,15 +76,15 @@ unfolding scores_text
 scores-stored s v u = stored-append v u
 
 -- ---- a ring or none
-module _ {at a e : ℕ} {l l' l'' : List ℕ} (word : List ℕ) (f : Fixed) (v : Stored at word l l' a) where
-  pub some-ring : (x : Fix) → f ≡ At x → Stored a (ring_text x) l' l'' e → Stored at (fix_text word f) l l'' e
+module _ {at a e : ℕ} {l l' l'' : List ℕ} (word : List ℕ) (f : Option Fix) (v : Stored at word l l' a) where
+  pub some-ring : (x : Fix) → f ≡ Some x → Stored a (ring_text x) l' l'' e → Stored at (fix_text word f) l l'' e
   some-ring x z u =
       stored-ext (word ++ ring_text x) (fix_text word f) (unfold fix_text in refl ∙ ap (fix_text word) (sym z)) (stored-append v u)
 
-  pub no-ring : f ≡ NoFix → Stored a (no_fix_word ++ end) l' l'' e → Stored at (fix_text word f) l l'' e
+  pub no-ring : f ≡ None → Stored a (no_fix_word ++ end) l' l'' e → Stored at (fix_text word f) l l'' e
   no-ring z u = stored-ext (word ++ (no_fix_word ++ end)) (fix_text word f) (none ∙ ap (fix_text word) (sym z)) (stored-append v u)
     where
-      none : word ++ (no_fix_word ++ end) ≡ fix_text word NoFix
+      none : word ++ (no_fix_word ++ end) ≡ fix_text word None
       none = unfold fix_text in refl
 
 -- ---- a trace and an answer
@@ -98,16 +94,15 @@ pub trace-stored : {r1 r2 r3 r4 e : ℕ} {l l1 l2 l3 l4 l5 : List ℕ} (t : Trac
 unfolding trace_text
 trace-stored t a b c d f = stored-append a (stored-append b (stored-append c (stored-append d f)))
 
-module _ {e : ℕ} {l l' : List ℕ} (a : Answer) where
-  pub given-text : a.outcome ≡ Given → Stored 0 (trace_text a.trace) l l' e → Stored 0 (answer_text a) l l' e
-  given-text z v = stored-ext (trace_text a.trace) (answer_text a) (given ∙ ap (λ (o : Outcome). outcome_text o a.trace) (sym z)) v
-    where
-      given : trace_text a.trace ≡ outcome_text Given a.trace
-      given = unfold outcome_text in refl
+module _ {e : ℕ} {l l' : List ℕ} (a : Result Trace Refusal) where
+  pub given-text : (t : Trace) → a ≡ Ok t → Stored 0 (trace_text t) l l' e → Stored 0 (answer_text (said a)) l l' e
+  unfolding answer_text
+  given-text t z v =
+      stored-ext (trace_text t) (answer_text (said a)) (ap (λ (r : Result Trace Refusal). answer_text (said r)) (sym z)) v
 
-  pub refused-text : (n : ℕ) → a.outcome ≡ Refused n → Stored 0 (line_of refused_word (n ∷ [])) l l' e → Stored 0 (answer_text a) l l' e
-  refused-text n z v =
-      stored-ext (line_of refused_word (n ∷ [])) (answer_text a) (refused ∙ ap (λ (o : Outcome). outcome_text o a.trace) (sym z)) v
-    where
-      refused : line_of refused_word (n ∷ []) ≡ outcome_text (Refused n) a.trace
-      refused = unfold outcome_text in refl
+  pub refused-text : (r : Refusal) → a ≡ Err r → Stored 0 (line_of refused_word (number_of r ∷ [])) l l' e
+      → Stored 0 (answer_text (said a)) l l' e
+  unfolding answer_text
+  refused-text r z v =
+      stored-ext (line_of refused_word (number_of r ∷ [])) (answer_text (said a))
+      (ap (λ (r : Result Trace Refusal). answer_text (said r)) (sym z)) v

@@ -13,16 +13,17 @@ use Rattle.word_bytes.specs.Words.{word_at}
 use Rattle.word_bytes.proofs.Places.{front}
 use Rattle.text.specs.Text.{line_of, refused_word}
 use Rattle.ring.specs.Door.{answer_of}
-use Rattle.ring.specs.declared.door.Answer.{Answer}
+use Rattle.ring.specs.declared.quads.Trace.{Trace}
+use Rattle.laws.specs.Said.{Said}
 use Rattle.attempt_text.specs.Attempt.{pixel_count, number_count, check_attempt, record_pixels, floats_at, points_of}
 use Rattle.attempt_text.specs.Traced.{answer_text, text_by, text_of, filled}
 
 -- ---- the door's answer
 module _ (s gray : List ℕ) (points : List Float) where
-  abbrev answer_to : ℕ → ℕ → ℕ → ℕ → ℕ → ℕ → Answer
+  abbrev answer_to : ℕ → ℕ → ℕ → ℕ → ℕ → ℕ → Said Trace
   answer_to w h most a b c = answer_of gray w h points most a b c
 
-  pub answer-said : (z : Answer) (w h most a b c : ℕ) → w ≡ word_at s 0 → h ≡ word_at s 4 → most ≡ word_at s 8 → 32770 ≡ a → 32770 ≡ b
+  pub answer-said : (z : Said Trace) (w h most a b c : ℕ) → w ≡ word_at s 0 → h ≡ word_at s 4 → most ≡ word_at s 8 → 32770 ≡ a → 32770 ≡ b
       → 32770 ≡ c → z ≡ answer_of gray w h points most a b c
       → z ≡ answer_of gray (word_at s 0) (word_at s 4) points (word_at s 8) 32770 32770 32770
   answer-said z w h most a b c ew eh em ea eb ec e =

@@ -1,25 +1,20 @@
 -- An attempt as text, over the ring door's definition: `refused N`, or the lines of the trace, by rules 33 to 36. Floats
 -- are the hex of their bits, or `nan`. Definitions only. Assumes nothing.
-use Rattle.std.specs.Prelude.{cond, List, [], ◌∷◌, ◌++◌, ℕ, zero, suc, Float, length, drop, replicate}
+use Rattle.std.specs.Prelude.{cond, List, [], ◌∷◌, ◌++◌, ℕ, zero, suc, Option, Some, None, Float, length, drop, replicate}
 use Rattle.std.specs.Float.{Format, binary32, binary64}
 use Rattle.std.specs.Float.Ieee.{is_nan, to_bits}
 use Rattle.transform.specs.Mapping.{eleven_of}
 use Rattle.laws.specs.Fold.{joined, bit}
+use Rattle.laws.specs.Said.{Said, refuse, none, give}
 use Rattle.text.specs.Text.{decimal, hex, line_of, refused_word, quad_word, none_word}
 use Rattle.hull.specs.Quad.{values_of}
-use Rattle.hull.specs.declared.points.Corners.{Corners}
-use Rattle.hull.specs.declared.points.Corners.TheVariants.{Found, NoQuad}
+use Rattle.hull.specs.declared.points.Quad.{Quad}
 use Rattle.search.specs.declared.versions.Score.{Score}
 use Rattle.search.specs.declared.versions.Scores.{Scores}
 use Rattle.accept.specs.Accept.{place_at}
 use Rattle.accept.specs.declared.Fix.{Fix}
-use Rattle.accept.specs.declared.Fixed.{Fixed}
-use Rattle.accept.specs.declared.Fixed.TheVariants.{At, NoFix}
 use Rattle.ring.specs.Door.{answer_of}
 use Rattle.ring.specs.declared.quads.Trace.{Trace}
-use Rattle.ring.specs.declared.door.Answer.{Answer}
-use Rattle.ring.specs.declared.door.Outcome.{Outcome}
-use Rattle.ring.specs.declared.door.Outcome.TheVariants.{Given, Refused}
 use Rattle.attempt_text.specs.Attempt.{width_of, height_of, greatest_of, record_pixels, points_of, check_attempt}
 
 -- ---- the words
@@ -78,9 +73,9 @@ end = 10 ∷ []
 
 -- ---- the lines
 -- The quad's corners, or none.
-unfoldable pub quad_text : Corners → List ℕ
-quad_text (Found q) = quad_word ++ (each single (values_of (Found q)) ++ end)
-quad_text NoQuad = line_of none_word []
+unfoldable pub quad_text : Option Quad → List ℕ
+quad_text (Some q) = quad_word ++ (each single (values_of (Some q)) ++ end)
+quad_text None = line_of none_word []
 
 -- A score: version, agreement, corner, and 1 where it is mirrored.
 unfoldable pub score_line : Score → List ℕ
@@ -100,9 +95,9 @@ abbrev pub ring_text : Fix → List ℕ
 ring_text f = number f.version ++ (single f.agreement ++ (each double (eleven_of f.map) ++ end))
 
 -- A word, and a ring or none.
-unfoldable pub fix_text : List ℕ → Fixed → List ℕ
-fix_text word (At f) = word ++ ring_text f
-fix_text word NoFix = word ++ (no_fix_word ++ end)
+unfoldable pub fix_text : List ℕ → Option Fix → List ℕ
+fix_text word (Some f) = word ++ ring_text f
+fix_text word None = word ++ (no_fix_word ++ end)
 
 -- A trace: hull vertices, the quad, the scores, the accepted ring, the one under the relaxed rule.
 unfoldable pub trace_text : Trace → List ℕ
@@ -114,13 +109,11 @@ trace_text t =
     ++ fix_text fallback_word t.fallback)))
 
 -- ---- the text
--- The ring door's answer: its refusal, or its trace.
-unfoldable pub outcome_text : Outcome → Trace → List ℕ
-outcome_text Given t = trace_text t
-outcome_text (Refused n) t = line_of refused_word (n ∷ [])
-
-abbrev pub answer_text : Answer → List ℕ
-answer_text a = outcome_text a.outcome a.trace
+-- The ring door's answer: its refusal, or its trace; the door says nothing else.
+unfoldable pub answer_text : Said Trace → List ℕ
+answer_text (give t) = trace_text t
+answer_text (refuse n) = line_of refused_word (n ∷ [])
+answer_text none = []
 
 -- A record that is refused with the number n, or the door's answer where n is 0; its working lists have 32,770 places.
 unfoldable pub text_by : ℕ → List ℕ → List ℕ

@@ -36,9 +36,8 @@ pub fn text(input: &[u8]) -> Printed
     ensures most { result.len ≤ 4096 }
 {
     let mut bytes = room();
-    let n = record::check(input);
-    if n != 0 {
-        let end = lines::refused(n, &mut bytes);
+    if let Err(r) = record::check(input) {
+        let end = lines::refused(r, &mut bytes);
         return Printed {
             bytes: bytes,
             len: end,

@@ -1,16 +1,18 @@
 // The lines of a trace. Each function has room for the longest numbers of their types, not only for
 // those that a trace has.
-ghost use Rattle.std.specs.Prelude.{◌≡◌, [], ◌∷◌, ◌++◌, ◌+◌, ◌*◌, ◌≤◌, length};
+ghost use Rattle.std.specs.Prelude.{◌≡◌, [], ◌∷◌, ◌++◌, ◌+◌, ◌*◌, ◌≤◌, Some, Ok, length};
+ghost use Rattle.refusal.specs.Numbers.{number_of, said};
+ghost use Rattle.refusal.specs.declared.Refusal.{Refusal};
+ghost use Rattle.ring.specs.declared.quads.Trace.{Trace};
 ghost use Rattle.transform.specs.Mapping.{eleven_of};
 ghost use Rattle.laws.specs.Lent.{Stored};
 ghost use Rattle.text.specs.Text.{line_of, refused_word};
-ghost use Rattle.hull.specs.declared.points.Corners.TheVariants.{Found};
 ghost use Rattle.attempt_text.specs.Traced.{each, double, end, quad_text, score_line, score_lines, scores_text, fix_text, ring_text, trace_text, answer_text};
 
 use crate::pieces::{flag, put_count, put_doubles, put_single, put_singles, put_small};
-use accept::{Fix, Fixed};
-use hull::points::{Corners, Quad};
-use ring::door::{Answer, Outcome};
+use accept::Fix;
+use hull::points::Quad;
+use refusal::Refusal;
 use ring::quads::Trace;
 use search::versions::{Score, Scores};
 use text::{put_byte, put_word};
@@ -40,7 +42,7 @@ fn counted(out: &mut [u8], at: usize, word: &[u8], n: usize) -> usize
 // The line of a quad's corners.
 fn put_quad(out: &mut [u8], at: usize, q: Quad) -> usize
     requires { at + 77 ≤ length out.old }
-    ensures out { Stored at (quad_text (Found q)) out.old out.new result }
+    ensures out { Stored at (quad_text (Some q)) out.old out.new result }
     ensures most { result ≤ at + 77 }
 {
     let xs = [q.a.x, q.a.y, q.b.x, q.b.y, q.c.x, q.c.y, q.d.x, q.d.y];
@@ -50,12 +52,12 @@ fn put_quad(out: &mut [u8], at: usize, q: Quad) -> usize
 }
 
 // The line of a quad or none.
-fn put_corners(out: &mut [u8], at: usize, c: Corners) -> usize
+fn put_corners(out: &mut [u8], at: usize, c: Option<Quad>) -> usize
     requires { at + 77 ≤ length out.old }
     ensures out { Stored at (quad_text c) out.old out.new result }
     ensures most { result ≤ at + 77 }
 {
-    let Corners::Found(q) = c else {
+    let Some(q) = c else {
         return line(out, at, b"quad none");
     };
     put_quad(out, at, q)
@@ -82,10 +84,8 @@ fn put_list(out: &mut [u8], at: usize, list: [Score; 64], n: usize) -> usize
     ensures most { result ≤ at + 44 * n }
 {
     let mut to = at;
-    let mut k: usize = 0;
-    while k < n {
+    for k in 0..n {
         to = put_score(out, to, list[k]);
-        k += 1;
     }
     to
 }
@@ -107,9 +107,7 @@ fn put_map(out: &mut [u8], at: usize, t: Transform) -> usize
     ensures out { Stored at (each double (eleven_of t)) out.old out.new result }
     ensures most { result ≤ at + 187 }
 {
-    let xs = [
-        t.m0, t.m1, t.m2, t.m3, t.m4, t.m5, t.m6, t.m7, t.cx, t.cy, t.kappa,
-    ];
+    let xs = <[f64; 11]>::from(t);
     put_doubles(out, at, &xs)
 }
 
@@ -127,13 +125,13 @@ fn put_ring(out: &mut [u8], at: usize, f: Fix) -> usize
 }
 
 // The line of a ring or none, after its word.
-fn put_fixed(out: &mut [u8], at: usize, word: &[u8], f: Fixed) -> usize
+fn put_fixed(out: &mut [u8], at: usize, word: &[u8], f: Option<Fix>) -> usize
     requires { at + (length word.now + 201) ≤ length out.old }
     ensures out { Stored at (fix_text word.now f) out.old out.new result }
     ensures most { result ≤ at + (length word.now + 201) }
 {
     let w = put_word(out, at, word);
-    let Fixed::At(x) = f else {
+    let Some(x) = f else {
         return line(out, w, b" none");
     };
     put_ring(out, w, x)
@@ -157,24 +155,23 @@ fn traced(t: Trace, out: &mut [u8]) -> usize
 }
 
 // The line of a refusal.
-pub(crate) fn refused(n: u32, out: &mut [u8]) -> usize
+pub(crate) fn refused(r: Refusal, out: &mut [u8]) -> usize
     requires { 3360 ≤ length out.old }
-    ensures out { Stored 0 (line_of refused_word (n ∷ [])) out.old out.new result }
+    ensures out { Stored 0 (line_of refused_word (number_of r ∷ [])) out.old out.new result }
     ensures most { result ≤ 3360 }
 {
-    counted(out, 0, b"refused", n as usize)
+    counted(out, 0, b"refused", r.number() as usize)
 }
 
 // The text of the door's answer.
-pub(crate) fn answered(r: Answer, out: &mut [u8]) -> usize
-    requires { (r.trace.scores.many ≤ 64) × (3360 ≤ length out.old) }
-    ensures out { Stored 0 (answer_text r) out.old out.new result }
+pub(crate) fn answered(r: Result<Trace, Refusal>, out: &mut [u8]) -> usize
+    requires many_bound { (t : Trace) → r ≡ Ok t → t.scores.many ≤ 64 }
+    requires in_bounds { 3360 ≤ length out.old }
+    ensures out { Stored 0 (answer_text (said r)) out.old out.new result }
     ensures most { result ≤ 3360 }
 {
-    let outcome = r.outcome;
-    let trace = r.trace;
-    match outcome {
-        Outcome::Given => traced(trace, out),
-        Outcome::Refused(n) => refused(n, out),
+    match r {
+        Ok(t) => traced(t, out),
+        Err(e) => refused(e, out),
     }
 }

@@ -30,7 +30,7 @@ pub(crate) fn put_small(out: &mut [u8], at: usize, n: u8) -> usize
 pub(crate) fn flag(b: bool) -> u8
     ensures { result ≡ bit b }
 {
-    if b { 1 } else { 0 }
+    u8::from(b)
 }
 
 // An f32.
@@ -40,7 +40,7 @@ pub(crate) fn put_single(out: &mut [u8], at: usize, x: f32) -> usize
     ensures most { result ≤ at + 9 }
 {
     let a = put_byte(out, at, b' ');
-    if x != x {
+    if x.is_nan() {
         return put_word(out, a, b"nan");
     }
     put_hex(out, a, 8, floats::bits32(x) as u64)
@@ -53,7 +53,7 @@ pub(crate) fn put_double(out: &mut [u8], at: usize, x: f64) -> usize
     ensures most { result ≤ at + 17 }
 {
     let a = put_byte(out, at, b' ');
-    if x != x {
+    if x.is_nan() {
         return put_word(out, a, b"nan");
     }
     put_hex(out, a, 16, floats::bits64(x))
@@ -66,25 +66,23 @@ pub(crate) fn put_singles(out: &mut [u8], at: usize, xs: &[f32]) -> usize
     ensures most { result ≤ at + 9 * length xs.now }
 {
     let mut to = at;
-    let mut i = 0;
-    while i < xs.len() {
-        to = put_single(out, to, xs[i]);
-        i += 1;
+    for x in xs {
+        to = put_single(out, to, *x);
     }
     to
 }
 
 // The f64 numbers of a list.
+// Kept: beside put_singles: one function for both is no plainer, `put: impl Fn(&mut [u8], usize, T)
+// -> usize` needs a contract of `put` in two clauses.
 pub(crate) fn put_doubles(out: &mut [u8], at: usize, xs: &[f64]) -> usize
     requires { at + 17 * length xs.now ≤ length out.old }
     ensures out { Stored at (each double xs.now) out.old out.new result }
     ensures most { result ≤ at + 17 * length xs.now }
 {
     let mut to = at;
-    let mut i = 0;
-    while i < xs.len() {
-        to = put_double(out, to, xs[i]);
-        i += 1;
+    for x in xs {
+        to = put_double(out, to, *x);
     }
     to
 }

@@ -1,7 +1,9 @@
 // The record: five words, the picture's bytes, the words of the list of points.
 ghost use Rattle.std.specs.Prelude.{◌≡◌, ◌<◌, ◌≤◌, length};
+ghost use Rattle.refusal.specs.Numbers.{number_in};
 ghost use Rattle.attempt_text.specs.Attempt.{pixel_count, number_count, check_attempt, floats_at};
 
+use refusal::Refusal;
 use word_bytes::word_at;
 use word_numbers::floats;
 
@@ -16,32 +18,28 @@ pub(crate) fn pixel_count(s: &[u8]) -> usize
 pub(crate) fn number_count(s: &[u8]) -> usize
     ensures { (result ≡ number_count s.now) × (result ≤ 32770) }
 {
-    let n = word_numbers::many(word_at(s, 16));
-    if 32770 < n {
-        return 32770;
-    }
-    n
+    word_numbers::many(word_at(s, 16)).min(32770)
 }
 
-// 13 where a part of the record is missing or too long, else 0.
-pub(crate) fn check(s: &[u8]) -> u32
-    ensures { result ≡ check_attempt s.now }
+// Whether no part of the record is missing or too long.
+pub(crate) fn check(s: &[u8]) -> Result<(), Refusal>
+    ensures { number_in result ≡ check_attempt s.now }
 {
     if s.len() < 20 {
-        return 13;
+        return Err(Refusal::Record);
     }
     let n = pixel_count(s);
     if 1048576 < n {
-        return 13;
+        return Err(Refusal::Record);
     }
     if s.len() < 20 + n {
-        return 13;
+        return Err(Refusal::Record);
     }
     let m = number_count(s);
     if s.len() < 20 + n + 4 * m {
-        return 13;
+        return Err(Refusal::Record);
     }
-    0
+    Ok(())
 }
 
 // The numbers whose words begin at a place, as many as the list has.
@@ -49,9 +47,7 @@ pub(crate) fn read(s: &[u8], from: usize, list: &mut [f32])
     requires { (from ≤ 1048596) × (length list.old ≤ 32770) }
     ensures { list.new ≡ floats_at s.now from (length list.old) }
 {
-    let mut k: usize = 0;
-    while k < list.len() {
+    for k in 0..list.len() {
         list[k] = floats::f32_of(word_at(s, from + 4 * k));
-        k += 1;
     }
 }

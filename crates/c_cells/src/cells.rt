@@ -1,99 +1,82 @@
 // The answers of the doors of border cells, crate `lcr_core`.
 ghost use Rattle.std.specs.Prelude.{◌≡◌};
-ghost use Rattle.c_cells.specs.Cells.{version_result, side_after, positions_after, depth_result, depth_after, edge_result, edge_after, offset_after, place_result, place_after, cell_result, x_after, y_after, mark_result, mark_after};
+ghost use Rattle.laws.specs.Said.{left_of, result_of};
+ghost use Rattle.refusal.specs.Numbers.{said, said_as, said_some};
+ghost use Rattle.lcr_core.specs.Doors.{edge_pair};
+ghost use Rattle.c_cells.specs.Cells.{side_after, positions_after, edge_after, offset_after, x_after, y_after};
 
-use lcr_core::doors::{CellAnswer, EdgeAnswer, MarkAnswer, PlaceAnswer, ShellAnswer};
-use lcr_core::version::VersionAnswer;
+use lcr_core::border::{Cell, EdgeOffset};
+use lcr_core::version::Version;
+use refusal::Refusal;
 
 // A version's side and positions.
-pub fn put_version(answer: VersionAnswer, side: &mut u16, positions: &mut usize) -> u32
-    ensures answer { result ≡ version_result answer }
-    ensures side { side.new ≡ side_after answer side.old }
-    ensures positions { positions.new ≡ positions_after answer positions.old }
+pub fn put_version(answer: Result<Version, Refusal>, side: &mut u16, positions: &mut usize) -> u32
+    ensures answer { result ≡ result_of (said answer) }
+    ensures side { side.new ≡ side_after (said answer) side.old }
+    ensures positions { positions.new ≡ positions_after (said answer) positions.old }
 {
     match answer {
-        VersionAnswer::Known(v) => {
+        Ok(v) => {
             *side = v.side();
             *positions = v.positions();
             0
         }
-        VersionAnswer::Refused(n) => n,
+        Err(r) => r.number(),
     }
 }
 
 // How far outside the symbol a cell lies.
-pub fn put_depth(answer: ShellAnswer, depth: &mut usize) -> u32
-    ensures answer { result ≡ depth_result answer }
-    ensures depth { depth.new ≡ depth_after answer depth.old }
+pub fn put_depth(answer: Result<usize, Refusal>, depth: &mut usize) -> u32
+    ensures answer { result ≡ result_of (said answer) }
+    ensures depth { depth.new ≡ left_of (said answer) depth.old }
 {
-    match answer {
-        ShellAnswer::Depth(d) => {
-            *depth = d;
-            0
-        }
-        ShellAnswer::Refused(n) => n,
-    }
+    c_answers::put(answer, depth)
 }
 
 // The edge that a cell sits on, and its coordinate along it.
-pub fn put_edge(answer: EdgeAnswer, edge: &mut usize, offset: &mut i32) -> u32
-    ensures answer { result ≡ edge_result answer }
-    ensures edge { edge.new ≡ edge_after answer edge.old }
-    ensures offset { offset.new ≡ offset_after answer offset.old }
+pub fn put_edge(answer: Result<EdgeOffset, Refusal>, edge: &mut usize, offset: &mut i32) -> u32
+    ensures answer { result ≡ result_of (said_as edge_pair answer) }
+    ensures edge { edge.new ≡ edge_after (said_as edge_pair answer) edge.old }
+    ensures offset { offset.new ≡ offset_after (said_as edge_pair answer) offset.old }
 {
     match answer {
-        EdgeAnswer::Along(e, o) => {
-            *edge = e;
-            *offset = o;
+        Ok(e) => {
+            *edge = e.edge;
+            *offset = e.offset;
             0
         }
-        EdgeAnswer::Refused(n) => n,
+        Err(r) => r.number(),
     }
 }
 
 // The position of a cell of the ring.
-pub fn put_place(answer: PlaceAnswer, position: &mut usize) -> u32
-    ensures answer { result ≡ place_result answer }
-    ensures position { position.new ≡ place_after answer position.old }
+pub fn put_place(answer: Result<Option<usize>, Refusal>, position: &mut usize) -> u32
+    ensures answer { result ≡ result_of (said_some answer) }
+    ensures position { position.new ≡ left_of (said_some answer) position.old }
 {
-    match answer {
-        PlaceAnswer::At(p) => {
-            *position = p;
-            0
-        }
-        PlaceAnswer::Outside => 255,
-        PlaceAnswer::Refused(n) => n,
-    }
+    c_answers::put_some(answer, position)
 }
 
 // The cell of a position.
-pub fn put_cell(answer: CellAnswer, x: &mut i32, y: &mut i32) -> u32
-    ensures answer { result ≡ cell_result answer }
-    ensures x { x.new ≡ x_after answer x.old }
-    ensures y { y.new ≡ y_after answer y.old }
+pub fn put_cell(answer: Result<Cell, Refusal>, x: &mut i32, y: &mut i32) -> u32
+    ensures answer { result ≡ result_of (said answer) }
+    ensures x { x.new ≡ x_after (said answer) x.old }
+    ensures y { y.new ≡ y_after (said answer) y.old }
 {
     match answer {
-        CellAnswer::Found(c) => {
-            let a = c.x;
-            let b = c.y;
-            *x = a;
-            *y = b;
+        Ok(c) => {
+            *x = c.x;
+            *y = c.y;
             0
         }
-        CellAnswer::Refused(n) => n,
+        Err(r) => r.number(),
     }
 }
 
 // Whether the ring is light at a position.
-pub fn put_mark(answer: MarkAnswer, light: &mut bool) -> u32
-    ensures answer { result ≡ mark_result answer }
-    ensures light { light.new ≡ mark_after answer light.old }
+pub fn put_mark(answer: Result<bool, Refusal>, light: &mut bool) -> u32
+    ensures answer { result ≡ result_of (said answer) }
+    ensures light { light.new ≡ left_of (said answer) light.old }
 {
-    match answer {
-        MarkAnswer::Light(l) => {
-            *light = l;
-            0
-        }
-        MarkAnswer::Refused(n) => n,
-    }
+    c_answers::put(answer, light)
 }

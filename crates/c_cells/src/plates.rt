@@ -1,16 +1,13 @@
 // The answers of the doors of proof rings, crate `proof_ring`.
 ghost use Rattle.std.specs.Prelude.{◌≡◌};
 ghost use Rattle.laws.specs.Said.{result_of};
-ghost use Rattle.proof_ring.specs.Doors.{answer_said};
+ghost use Rattle.refusal.specs.Numbers.{said};
 
-use proof_ring::Answer;
+use refusal::Refusal;
 
 // Of a ring drawn or read back: 0, or the refusal's number.
-pub fn number_of(answer: Answer) -> u32
-    ensures { result ≡ result_of (answer_said answer) }
+pub fn number_of(answer: Result<(), Refusal>) -> u32
+    ensures { result ≡ result_of (said answer) }
 {
-    match answer {
-        Answer::Done => 0,
-        Answer::Refused(n) => n,
-    }
+    c_answers::number(answer)
 }

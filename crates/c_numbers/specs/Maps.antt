@@ -1,14 +1,14 @@
 -- A transform as the eleven numbers that C functions take and give, and what is left where there may be none. Definitions only.
 -- Assumes nothing.
-use Rattle.std.specs.Prelude.{List, [], ◌∷◌, ℕ, ◌+◌, ◌*◌, get_or, Float}
+use Rattle.std.specs.Prelude.{List, [], ◌∷◌, ℕ, ◌+◌, ◌*◌, get_or, Float, Option, Ok}
 use Rattle.std.specs.Float.{nan}
 use Rattle.hull.specs.Points.{many}
 use Rattle.laws.specs.Fold.{joined}
 use Rattle.math.specs.Lists.{number_at}
 use Rattle.laws.specs.Said.{result_of, left_by}
-use Rattle.transform.specs.Mapping.{applied, mapped_said, eleven_of}
+use Rattle.transform.specs.Mapping.{applied, eleven_of}
 use Rattle.transform.specs.declared.Transform.{Transform}
-use Rattle.transform.specs.declared.Mapped.{Mapped}
+use Rattle.refusal.specs.Numbers.{said_some}
 
 -- The transform of eleven numbers: coefficients m0 to m7, then the lens cx, cy, kappa.
 abbrev pub map_of : List Float → Transform
@@ -28,11 +28,11 @@ map_of s = record {
 
 -- The eleven numbers of a transform.
 -- The result where a transform may be none, and what is left of a list of eleven.
-abbrev pub mapped_result : Mapped → ℕ
-mapped_result a = result_of (mapped_said a)
+abbrev pub mapped_result : Option Transform → ℕ
+mapped_result a = result_of (said_some (Ok a))
 
-abbrev pub mapped_after : Mapped → List Float → List Float
-mapped_after a old = left_by eleven_of (mapped_said a) old
+abbrev pub mapped_after : Option Transform → List Float → List Float
+mapped_after a old = left_by eleven_of (said_some (Ok a)) old
 
 -- ---- many places
 -- The pixel of place i of a list, u and v by turns: its x and y.

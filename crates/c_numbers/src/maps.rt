@@ -5,7 +5,7 @@ ghost use Rattle.laws.specs.Lent.{Stored, laid};
 ghost use Rattle.c_numbers.specs.Maps.{map_of, mapped_result, mapped_after, pixel_at, mapped_pixels};
 ghost use Rattle.transform.specs.Mapping.{eleven_of};
 
-use transform::{Mapped, Transform};
+use transform::Transform;
 
 // The transform of eleven numbers.
 pub fn of_eleven(t: &[f64; 11]) -> Transform
@@ -30,23 +30,15 @@ pub fn of_eleven(t: &[f64; 11]) -> Transform
 pub fn eleven(t: Transform) -> [f64; 11]
     ensures { result ≡ eleven_of t }
 {
-    [
-        t.m0, t.m1, t.m2, t.m3, t.m4, t.m5, t.m6, t.m7, t.cx, t.cy, t.kappa,
-    ]
+    t.into()
 }
 
 // A transform, where there is one.
-pub fn put_mapped(answer: Mapped, t: &mut [f64; 11]) -> u32
+pub fn put_mapped(answer: Option<Transform>, t: &mut [f64; 11]) -> u32
     ensures answer { result ≡ mapped_result answer }
     ensures t { t.new ≡ mapped_after answer t.old }
 {
-    match answer {
-        Mapped::Some(m) => {
-            *t = eleven(m);
-            0
-        }
-        Mapped::None => 255,
-    }
+    c_answers::put_some(Ok(answer.map(eleven)), t)
 }
 
 // The pixel of place i, x and y by turns.
@@ -68,9 +60,7 @@ pub fn apply_each(t: Transform, uv: &[f32], xy: &mut [f32])
         ≡ laid (mapped_pixels t uv.now) xy.old }
 {
     let n = uv.len() / 2;
-    let mut i: usize = 0;
-    while i < n {
+    for i in 0..n {
         apply_at(t, uv, i, xy);
-        i += 1;
     }
 }

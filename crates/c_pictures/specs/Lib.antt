@@ -2,4 +2,3 @@
 pub mod Answers
 pub mod Kept
 pub mod Files
-pub mod Rows

@@ -6,6 +6,7 @@ ghost use Rattle.c_pictures.specs.Kept.{region_numbers};
 use regions::answer::Kept;
 
 // How many, as 32 bits; a picture has fewer.
+// Kept: region_numbers takes the remainder, and `try_from` has no number to give past 32 bits.
 fn many(n: usize) -> u32
     ensures { result ≡ n % 4294967296 }
 {

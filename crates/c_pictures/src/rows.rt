@@ -1,19 +1,14 @@
 // What the entries that count rows answer.
 ghost use Rattle.std.specs.Prelude.{◌≡◌};
-ghost use Rattle.c_pictures.specs.Rows.{count_result, count_after};
+ghost use Rattle.laws.specs.Said.{left_of, result_of};
+ghost use Rattle.refusal.specs.Numbers.{said};
 
-use noise::Count;
+use refusal::Refusal;
 
 // How many rows.
-pub fn put_count(answer: Count, count: &mut u64) -> u32
-    ensures answer { result ≡ count_result answer }
-    ensures count { count.new ≡ count_after answer count.old }
+pub fn put_count(answer: Result<u64, Refusal>, count: &mut u64) -> u32
+    ensures answer { result ≡ result_of (said answer) }
+    ensures count { count.new ≡ left_of (said answer) count.old }
 {
-    match answer {
-        Count::Of(n) => {
-            *count = n;
-            0
-        }
-        Count::Refused(n) => n,
-    }
+    c_answers::put(answer, count)
 }

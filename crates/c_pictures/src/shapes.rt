@@ -1,29 +1,24 @@
 // The outline door's answer, and a quad's corners as eight numbers.
-ghost use Rattle.std.specs.Prelude.{◌≡◌};
-ghost use Rattle.c_pictures.specs.Answers.{outline_result, points_after};
+ghost use Rattle.std.specs.Prelude.{◌≡◌, Some};
+ghost use Rattle.laws.specs.Said.{left_of, result_of};
+ghost use Rattle.refusal.specs.Numbers.{said};
 ghost use Rattle.hull.specs.Quad.{values_of};
-ghost use Rattle.hull.specs.declared.points.Corners.TheVariants.{Found};
 
 use hull::points::Quad;
-use outline::Answer;
+use refusal::Refusal;
 
 // How many points there are.
-pub fn put_many(answer: Answer, points: &mut usize) -> u32
-    ensures answer { result ≡ outline_result answer }
-    ensures points { points.new ≡ points_after answer points.old }
+pub fn put_many(answer: Result<usize, Refusal>, points: &mut usize) -> u32
+    ensures answer { result ≡ result_of (said answer) }
+    ensures points { points.new ≡ left_of (said answer) points.old }
 {
-    match answer {
-        Answer::Points(n) => {
-            *points = n;
-            0
-        }
-        Answer::Refused(n) => n,
-    }
+    c_answers::put(answer, points)
 }
 
 // The eight numbers of a quad.
+// Kept: beside that of `wholes`; quads of f32 and of u32 are types of two crates.
 pub fn numbers(q: Quad) -> [f32; 8]
-    ensures { result ≡ values_of (Found q) }
+    ensures { result ≡ values_of (Some q) }
 {
     let a = q.a;
     let b = q.b;

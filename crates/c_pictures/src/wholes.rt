@@ -1,24 +1,18 @@
 // What the doors of hull and quad in whole numbers answer.
 ghost use Rattle.std.specs.Prelude.{◌≡◌};
-ghost use Rattle.laws.specs.Said.{result_of, left_of};
-ghost use Rattle.whole_hull.specs.Door.{answer_said};
-ghost use Rattle.whole_quad.specs.Door.{quad_numbers, corners_said};
+ghost use Rattle.laws.specs.Said.{result_of, left_by, left_of};
+ghost use Rattle.refusal.specs.Numbers.{said, said_some};
+ghost use Rattle.whole_quad.specs.Door.{quad_numbers};
 
-use whole_hull::Answer;
-use whole_quad::corners::{Corners, Quad};
+use refusal::Refusal;
+use whole_quad::corners::Quad;
 
 // How many vertices there are.
-pub fn put_vertices(answer: Answer, vertices: &mut usize) -> u32
-    ensures answer { result ≡ result_of (answer_said answer) }
-    ensures vertices { vertices.new ≡ left_of (answer_said answer) vertices.old }
+pub fn put_vertices(answer: Result<usize, Refusal>, vertices: &mut usize) -> u32
+    ensures answer { result ≡ result_of (said answer) }
+    ensures vertices { vertices.new ≡ left_of (said answer) vertices.old }
 {
-    match answer {
-        Answer::Vertices(n) => {
-            *vertices = n;
-            0
-        }
-        Answer::Refused(n) => n,
-    }
+    c_answers::put(answer, vertices)
 }
 
 // The eight numbers of a quad.
@@ -33,16 +27,12 @@ fn numbers(q: Quad) -> [u32; 8]
 }
 
 // The corners.
-pub fn put_corners(answer: Corners, quad: &mut [u32; 8]) -> u32
-    ensures answer { result ≡ result_of (corners_said answer) }
-    ensures quad { quad.new ≡ left_of (corners_said answer) quad.old }
+pub fn put_corners(answer: Result<Option<Quad>, Refusal>, quad: &mut [u32; 8]) -> u32
+    ensures answer { result ≡ result_of (said_some answer) }
+    ensures quad { quad.new ≡ left_by quad_numbers (said_some answer) quad.old }
 {
     match answer {
-        Corners::Found(q) => {
-            *quad = numbers(q);
-            0
-        }
-        Corners::NoQuad => 255,
-        Corners::Refused(n) => n,
+        Ok(found) => c_answers::put_some(Ok(found.map(numbers)), quad),
+        Err(r) => r.number(),
     }
 }

@@ -1,16 +1,13 @@
 -- An attempt's trace as numbers. Versions, corners and flags are exact in either format. Definitions only. Assumes nothing.
-use Rattle.std.specs.Prelude.{ℕ, ◌%◌, Bool, true, false, List, [], ◌∷◌, replicate, pos, from_bits, Float}
+use Rattle.std.specs.Prelude.{ℕ, ◌%◌, Bool, true, false, List, [], ◌∷◌, Option, Some, None, replicate, pos, from_bits, Float}
 use Rattle.std.specs.Float.{binary32, binary64}
 use Rattle.std.specs.Float.Ieee.{of_int}
 use Rattle.laws.specs.Fold.{bit, joined}
 use Rattle.hull.specs.Quad.{values_of}
-use Rattle.hull.specs.declared.points.Corners.{Corners}
-use Rattle.hull.specs.declared.points.Corners.TheVariants.{Found, NoQuad}
+use Rattle.hull.specs.declared.points.Quad.{Quad}
 use Rattle.search.specs.declared.versions.Score.{Score}
 use Rattle.accept.specs.Accept.{place_at}
 use Rattle.accept.specs.declared.Fix.{Fix}
-use Rattle.accept.specs.declared.Fixed.{Fixed}
-use Rattle.accept.specs.declared.Fixed.TheVariants.{At, NoFix}
 use Rattle.transform.specs.Mapping.{eleven_of}
 
 -- A score's numbers: version, agreement, corner, and 1 where the ring runs backwards, else 0. A corner is 0 to 3, so that the remainder is
@@ -36,15 +33,15 @@ fifteen_of f =
     ∷ eleven_of f.map
 
 -- The same of a ring or none: all 0 where there is none.
-abbrev pub ring_of : Fixed → List Float
-ring_of (At f) = fifteen_of f
-ring_of NoFix = replicate 15 (from_bits binary64 0)
+abbrev pub ring_of : Option Fix → List Float
+ring_of (Some f) = fifteen_of f
+ring_of None = replicate 15 (from_bits binary64 0)
 
 -- A quad's numbers, all 0 where there is none, and whether there is one.
-abbrev pub found_numbers : Corners → List Float
-found_numbers (Found q) = values_of (Found q)
-found_numbers NoQuad = replicate 8 (from_bits binary32 0)
+abbrev pub found_numbers : Option Quad → List Float
+found_numbers (Some q) = values_of (Some q)
+found_numbers None = replicate 8 (from_bits binary32 0)
 
-abbrev pub is_found : Corners → Bool
-is_found (Found q) = true
-is_found NoQuad = false
+abbrev pub is_found : Option Quad → Bool
+is_found (Some q) = true
+is_found None = false

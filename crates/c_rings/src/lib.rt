@@ -9,8 +9,8 @@ ghost use Rattle.laws.specs.Lent.{Stored};
 ghost use Rattle.c_rings.specs.Rings.{four_of, score_rows, fifteen_of, ring_of};
 ghost use Rattle.c_rings.specs.Rings.{found_numbers, is_found};
 
-use accept::{Fix, Fixed};
-use hull::points::Corners;
+use accept::Fix;
+use hull::points::Quad;
 use ring::quads::Trace;
 use search::versions::Score;
 
@@ -20,10 +20,7 @@ pub mod tags;
 pub(crate) fn flag(b: bool) -> u8
     ensures { result ≡ bit b }
 {
-    if b {
-        return 1;
-    }
-    0
+    u8::from(b)
 }
 
 // A corner's number, 0 to 3.
@@ -49,10 +46,8 @@ fn put_scores(list: [Score; 64], scores: &mut [f32])
     requires { 256 ≤ length scores.old }
     ensures { Stored 0 (score_rows list) scores.old scores.new 256 }
 {
-    let mut k: usize = 0;
-    while k < 64 {
+    for k in 0..64 {
         put_score(list[k], scores, 4 * k);
-        k += 1;
     }
 }
 
@@ -90,33 +85,30 @@ fn fifteen(f: Fix) -> [f64; 15]
 }
 
 // The numbers of a ring, 0 where there is none.
-fn ring_of(f: Fixed) -> [f64; 15]
+fn ring_of(f: Option<Fix>) -> [f64; 15]
     ensures { result ≡ ring_of f }
 {
     match f {
-        Fixed::At(x) => fifteen(x),
-        Fixed::NoFix => [0f64; 15],
+        Some(x) => fifteen(x),
+        None => [0f64; 15],
     }
 }
 
 // The numbers of a quad, 0 where there is none.
-fn corners_of(c: Corners) -> [f32; 8]
+fn corners_of(c: Option<Quad>) -> [f32; 8]
     ensures { result ≡ found_numbers c }
 {
     match c {
-        Corners::Found(q) => c_pictures::shapes::numbers(q),
-        Corners::NoQuad => [0f32; 8],
+        Some(q) => c_pictures::shapes::numbers(q),
+        None => [0f32; 8],
     }
 }
 
 // Whether there is a quad.
-fn is_found(c: Corners) -> bool
+fn is_found(c: Option<Quad>) -> bool
     ensures { result ≡ is_found c }
 {
-    match c {
-        Corners::Found(_) => true,
-        Corners::NoQuad => false,
-    }
+    c.is_some()
 }
 
 // Every number of a trace.

@@ -35,10 +35,8 @@ fn put_tags(list: [Tag; 4], out: &mut [f32])
     requires { 44 ≤ length out.old }
     ensures { Stored 0 (list_numbers list) out.old out.new 44 }
 {
-    let mut k: usize = 0;
-    while k < 4 {
+    for k in 0..4 {
         put_tag(list[k], out, 11 * k);
-        k += 1;
     }
 }
 

@@ -10,7 +10,6 @@
 
 ghost use Rattle.std.specs.Prelude.{◌+◌, ◌≤◌, length};
 
-use ring::door::{Answer, Outcome};
 use word_numbers::floats;
 
 pub mod traces;
@@ -21,10 +20,8 @@ fn lent(k: usize) -> f32 {
 }
 
 fn lend(list: &mut [f32]) {
-    let mut k: usize = 0;
-    while k < list.len() {
-        list[k] = lent(k);
-        k += 1;
+    for (k, x) in list.iter_mut().enumerate() {
+        *x = lent(k);
     }
 }
 
@@ -120,24 +117,10 @@ fn made(
     if kind == 910 {
         return crate::traces::answered(r, out);
     }
-    left(refusal(r), points.len(), x, y, z, out)
-}
-
-// The number of a refusal, or 0.
-fn refusal(r: Answer) -> u32 {
-    let o = r.outcome;
-    match o {
-        Outcome::Given => 0,
-        Outcome::Refused(n) => n,
+    match r {
+        Ok(_) => left(0, points.len(), x, y, z, out),
+        Err(e) => left(e.number(), 0, x, y, z, out),
     }
-}
-
-// The number at a place; 0 past the end.
-fn number(list: &[f32], k: usize) -> f32 {
-    if k < list.len() {
-        return list[k];
-    }
-    0.0
 }
 
 // The places of a list from `past` on, from place `at` of an answer on; the place after them.
@@ -145,17 +128,16 @@ fn put_past(list: &[f32], past: usize, out: &mut [u32], at: usize) -> usize
     requires { (length list.now ≤ 32770) × (at ≤ 100000) }
     ensures { result ≤ at + 32770 }
 {
-    let mut k: usize = past;
     let mut to = at;
-    while k < list.len() {
-        floats::put32(out, to, number(list, k));
-        k += 1;
+    for k in past..list.len() {
+        floats::put32(out, to, list[k]);
         to += 1;
     }
     to
 }
 
-fn left(refused: u32, m: usize, x: &[f32], y: &[f32], z: &[f32], out: &mut [u32]) -> usize {
+// What is left, from place `past` of each list on.
+fn left(refused: u32, past: usize, x: &[f32], y: &[f32], z: &[f32], out: &mut [u32]) -> usize {
     if 32770 < x.len() {
         return 0;
     }
@@ -164,10 +146,6 @@ fn left(refused: u32, m: usize, x: &[f32], y: &[f32], z: &[f32], out: &mut [u32]
     }
     if 32770 < z.len() {
         return 0;
-    }
-    let mut past = 0usize;
-    if refused == 0 {
-        past = m;
     }
     word_bytes::put(out, 0, 0);
     word_bytes::put(out, 1, refused);

@@ -3,10 +3,10 @@
 // ring is version, agreement, corner, mirrored, eleven f64.
 ghost use Rattle.std.specs.Prelude.{◌≡◌, ◌+◌, ◌≤◌, length};
 
-use accept::{Fix, Fixed};
+use accept::Fix;
 use calls_ring::told;
-use hull::points::{Corners, Point, Quad};
-use ring::door::{Answer, Outcome};
+use hull::points::{Point, Quad};
+use refusal::Refusal;
 use ring::quads::Trace;
 use word_numbers::floats;
 
@@ -14,10 +14,8 @@ use word_numbers::floats;
 fn blank(out: &mut [u32], at: usize, n: usize)
     requires { (at ≤ 100) × (n ≤ 100) }
 {
-    let mut k: usize = 0;
-    while k < n {
+    for k in 0..n {
         word_bytes::put(out, at + k, 0);
-        k += 1;
     }
 }
 
@@ -38,12 +36,12 @@ fn put_quad(q: Quad, out: &mut [u32], at: usize)
     put_point(q.d, out, at + 7);
 }
 
-fn put_corners(c: Corners, out: &mut [u32], at: usize)
+fn put_corners(c: Option<Quad>, out: &mut [u32], at: usize)
     requires { at ≤ 50 }
 {
     match c {
-        Corners::Found(q) => put_quad(q, out, at),
-        Corners::NoQuad => blank(out, at, 9),
+        Some(q) => put_quad(q, out, at),
+        None => blank(out, at, 9),
     }
 }
 
@@ -60,13 +58,13 @@ fn put_ring(f: Fix, out: &mut [u32], at: usize)
     told::put_map(f.map, out, at + 5);
 }
 
-fn put_fixed(f: Fixed, out: &mut [u32], at: usize)
+fn put_fixed(f: Option<Fix>, out: &mut [u32], at: usize)
     requires at_in_bounds { at + 27 ≤ length out.old }
     requires at_bound { at ≤ 100 }
 {
     match f {
-        Fixed::At(x) => put_ring(x, out, at),
-        Fixed::NoFix => blank(out, at, 27),
+        Some(x) => put_ring(x, out, at),
+        None => blank(out, at, 27),
     }
 }
 
@@ -87,11 +85,9 @@ fn put_trace(t: Trace, out: &mut [u32]) -> usize {
 }
 
 // The trace, or the refusal's number.
-pub(crate) fn answered(r: Answer, out: &mut [u32]) -> usize {
-    let o = r.outcome;
-    let t = r.trace;
-    match o {
-        Outcome::Given => put_trace(t, out),
-        Outcome::Refused(n) => word_numbers::one(out, n),
+pub(crate) fn answered(r: Result<Trace, Refusal>, out: &mut [u32]) -> usize {
+    match r {
+        Ok(t) => put_trace(t, out),
+        Err(e) => word_numbers::one(out, e.number()),
     }
 }

@@ -9,9 +9,10 @@
 
 ghost use Rattle.std.specs.Prelude.{◌≤◌, ◌<◌};
 
+use lcr_core::border::Cell;
 use lcr_core::doors;
-use lcr_core::doors::{CellAnswer, EdgeAnswer, MarkAnswer, PlaceAnswer, ShellAnswer};
-use lcr_core::version::{Version, VersionAnswer};
+use lcr_core::version::Version;
+use refusal::Refusal;
 
 pub fn answer(kind: u32, args: &[u32], out: &mut [u32]) -> usize {
     if args.len() < 3 {
@@ -35,15 +36,9 @@ pub fn answer(kind: u32, args: &[u32], out: &mut [u32]) -> usize {
 }
 
 fn version(v: u32, out: &mut [u32]) -> usize {
-    let known = Version::new(v);
-    match known {
-        VersionAnswer::Known(w) => word_numbers::three(
-            out,
-            0,
-            w.side() as u32,
-            (w.positions() % 65536) as u32,
-        ),
-        VersionAnswer::Refused(n) => word_numbers::one(out, n),
+    match Version::new(v) {
+        Ok(w) => word_numbers::three(out, 0, w.side() as u32, (w.positions() % 65536) as u32),
+        Err(r) => word_numbers::one(out, r.number()),
     }
 }
 
@@ -58,32 +53,24 @@ fn of_cell(kind: u32, v: u32, x: i32, y: i32, out: &mut [u32]) -> usize {
 }
 
 fn shell(v: u32, x: i32, y: i32, out: &mut [u32]) -> usize {
-    let answer = doors::shell(v, x, y);
-    match answer {
-        ShellAnswer::Depth(d) => word_numbers::two(out, 0, (d % 4294967296) as u32),
-        ShellAnswer::Refused(n) => word_numbers::one(out, n),
+    match doors::shell(v, x, y) {
+        Ok(d) => word_numbers::two(out, 0, (d % 4294967296) as u32),
+        Err(r) => word_numbers::one(out, r.number()),
     }
 }
 
 fn edge(v: u32, x: i32, y: i32, out: &mut [u32]) -> usize {
-    let answer = doors::edge_and_offset(v, x, y);
-    match answer {
-        EdgeAnswer::Along(e, offset) => word_numbers::three(
-            out,
-            0,
-            (e % 4) as u32,
-            word_numbers::bits(offset),
-        ),
-        EdgeAnswer::Refused(n) => word_numbers::one(out, n),
+    match doors::edge_and_offset(v, x, y) {
+        Ok(e) => word_numbers::three(out, 0, (e.edge % 4) as u32, word_numbers::bits(e.offset)),
+        Err(r) => word_numbers::one(out, r.number()),
     }
 }
 
 fn position(v: u32, x: i32, y: i32, out: &mut [u32]) -> usize {
-    let answer = doors::position(v, x, y);
-    match answer {
-        PlaceAnswer::At(p) => word_numbers::three(out, 0, 1, (p % 4294967296) as u32),
-        PlaceAnswer::Outside => word_numbers::two(out, 0, 0),
-        PlaceAnswer::Refused(n) => word_numbers::one(out, n),
+    match doors::position(v, x, y) {
+        Ok(Some(p)) => word_numbers::three(out, 0, 1, (p % 4294967296) as u32),
+        Ok(None) => word_numbers::two(out, 0, 0),
+        Err(r) => word_numbers::one(out, r.number()),
     }
 }
 
@@ -106,23 +93,22 @@ fn of_position(kind: u32, v: u32, p: usize, out: &mut [u32]) -> usize {
     0
 }
 
-fn found(answer: CellAnswer, out: &mut [u32]) -> usize {
+fn found(answer: Result<Cell, Refusal>, out: &mut [u32]) -> usize {
     match answer {
-        CellAnswer::Found(cell) => word_numbers::three(
+        Ok(cell) => word_numbers::three(
             out,
             0,
             word_numbers::bits(cell.x),
             word_numbers::bits(cell.y),
         ),
-        CellAnswer::Refused(n) => word_numbers::one(out, n),
+        Err(r) => word_numbers::one(out, r.number()),
     }
 }
 
 fn mark(v: u32, p: usize, out: &mut [u32]) -> usize {
-    let answer = doors::sequence_light(v, p);
-    match answer {
-        MarkAnswer::Light(light) => word_numbers::two(out, 0, word_numbers::flag(light)),
-        MarkAnswer::Refused(n) => word_numbers::one(out, n),
+    match doors::sequence_light(v, p) {
+        Ok(light) => word_numbers::two(out, 0, word_numbers::flag(light)),
+        Err(r) => word_numbers::one(out, r.number()),
     }
 }
 
@@ -130,10 +116,9 @@ fn mark(v: u32, p: usize, out: &mut [u32]) -> usize {
 fn mark_bit(v: u32, p: usize) -> u32
     ensures { result ≤ 1 }
 {
-    let answer = doors::sequence_light(v, p);
-    match answer {
-        MarkAnswer::Light(light) => word_numbers::flag(light),
-        MarkAnswer::Refused(_) => 0,
+    match doors::sequence_light(v, p) {
+        Ok(light) => word_numbers::flag(light),
+        Err(_) => 0,
     }
 }
 
@@ -141,9 +126,7 @@ fn marks(v: u32, p: usize, out: &mut [u32]) -> usize
     requires { p < 65536 }
 {
     let mut word: u32 = 0;
-    let mut k: usize = 32;
-    while 0 < k {
-        k -= 1;
+    for k in (0..32).rev() {
         word = (word % 2147483648) * 2 + mark_bit(v, p + k);
     }
     word_numbers::two(out, 0, word)

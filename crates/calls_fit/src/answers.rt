@@ -3,7 +3,7 @@
 ghost use Rattle.std.specs.Prelude.{◌≤◌, length};
 
 use fit::line::{Crossing, Line};
-use hull::points::{Corners, Quad};
+use hull::points::Quad;
 use lens::bow::Bow;
 use word_numbers::floats;
 
@@ -49,16 +49,16 @@ pub(crate) fn crossing(c: Crossing, out: &mut [u32]) -> usize {
     put(out, 2, &n)
 }
 
-pub(crate) fn bow(b: Bow, out: &mut [u32]) -> usize {
-    let Bow::Fit(c0, c1, c2, err) = b else {
+pub(crate) fn bow(answer: Option<Bow>, out: &mut [u32]) -> usize {
+    let Some(b) = answer else {
         return word_numbers::two(out, 0, 0);
     };
-    let n = [c0, c1, c2, err];
+    let n = [b.c0, b.c1, b.a, b.error];
     put(out, 2, &n)
 }
 
-pub(crate) fn found(c: Corners, out: &mut [u32]) -> usize {
-    let Corners::Found(q) = c else {
+pub(crate) fn found(answer: Option<Quad>, out: &mut [u32]) -> usize {
+    let Some(q) = answer else {
         return word_numbers::two(out, 0, 0);
     };
     corners(q, out, 2)

@@ -17,7 +17,7 @@ pub mod answers;
 ghost use Rattle.std.specs.Prelude.{◌≡◌, ◌≤◌, length};
 
 use fit::line::{Edge, Line};
-use hull::points::{Corners, Point, Quad};
+use hull::points::{Point, Quad};
 use lens::bow::Bow;
 use lens::straight::Lens;
 use word_numbers::floats;
@@ -26,28 +26,14 @@ use word_numbers::floats;
 fn head(kind: u32) -> usize
     ensures { result ≤ 17 }
 {
-    if kind == 800 {
-        return 0;
+    match kind {
+        800 => 0,
+        801 | 807 => 11,
+        802 | 803 | 804 => 8,
+        805 => 17,
+        806 => 4,
+        _ => 3,
     }
-    if kind == 802 {
-        return 8;
-    }
-    if kind < 803 {
-        return 11;
-    }
-    if kind < 805 {
-        return 8;
-    }
-    if kind == 805 {
-        return 17;
-    }
-    if kind == 806 {
-        return 4;
-    }
-    if kind == 807 {
-        return 11;
-    }
-    3
 }
 
 // Room for the longest list of points.
@@ -109,28 +95,29 @@ fn line(a: &[f32; 17], i: usize) -> Line
 fn of_points(kind: u32, a: &[f32; 17], s: &[f32], out: &mut [u32]) -> usize
     requires { length s.now ≤ 8192 }
 {
-    if kind == 800 {
-        return answers::lines(fit::line::tls_line(s), out, 1);
+    match kind {
+        800 => answers::lines(fit::line::tls_line(s), out, 1),
+        802 => answers::crossing(fit::line::intersect(line(a, 0), line(a, 4)), out),
+        805 => {
+            let same = fit::corners::same_quad(quad(a, 0), quad(a, 8), a[16]);
+            word_numbers::two(out, 0, word_numbers::flag(same))
+        }
+        806 => answers::bow(lens::bow::bow_fit(s, before(a)), out),
+        _ => lend(kind, a, s, out),
     }
-    if kind == 802 {
-        return answers::crossing(fit::line::intersect(line(a, 0), line(a, 4)), out);
-    }
-    if kind == 805 {
-        let same = fit::corners::same_quad(quad(a, 0), quad(a, 8), a[16]);
-        return word_numbers::two(out, 0, word_numbers::flag(same));
-    }
-    if kind == 806 {
-        return answers::bow(lens::bow::bow_fit(s, before(a)), out);
-    }
-    lend(kind, a, s, out)
 }
 
 // The bow before, or none.
-fn before(a: &[f32; 17]) -> Bow {
+fn before(a: &[f32; 17]) -> Option<Bow> {
     if a[0] == 0.0 {
-        return Bow::NoFit;
+        return None;
     }
-    Bow::Fit(a[1], a[2], a[3], 0.0)
+    Some(Bow {
+        c0: a[1],
+        c1: a[2],
+        a: a[3],
+        error: 0.0,
+    })
 }
 
 // The calls that need working lists.
@@ -154,22 +141,14 @@ fn of_lists(
     requires x_len { length x.old ≡ 8192 }
     requires y_len { length y.old ≡ 8192 }
 {
-    if kind == 801 {
-        return refit(a, s, x, out);
+    match kind {
+        801 => refit(a, s, x, out),
+        803 => answers::corners(fit::corners::refine_quad(s, quad(a, 0), x), out, 1),
+        804 => answers::found(fit::edges::edge_quad(s, quad(a, 0), x, y), out),
+        807 => estimate(a, s, x, y, out),
+        808 => straight(a, s, x, out),
+        _ => 0,
     }
-    if kind == 803 {
-        return answers::corners(fit::corners::refine_quad(s, quad(a, 0), x), out, 1);
-    }
-    if kind == 804 {
-        return answers::found(fit::edges::edge_quad(s, quad(a, 0), x, y), out);
-    }
-    if kind == 807 {
-        return estimate(a, s, x, y, out);
-    }
-    if kind == 808 {
-        return straight(a, s, x, out);
-    }
-    0
 }
 
 fn refit(a: &[f32; 17], s: &[f32], x: &mut [f32], out: &mut [u32]) -> usize
@@ -198,11 +177,11 @@ fn estimate(a: &[f32; 17], s: &[f32], x: &mut [f32], y: &mut [f32], out: &mut [u
 }
 
 // The quad of an estimate, or none.
-fn raw(a: &[f32; 17]) -> Corners {
+fn raw(a: &[f32; 17]) -> Option<Quad> {
     if a[2] == 0.0 {
-        return Corners::NoQuad;
+        return None;
     }
-    Corners::Found(quad(a, 3))
+    Some(quad(a, 3))
 }
 
 fn straight(a: &[f32; 17], s: &[f32], x: &mut [f32], out: &mut [u32]) -> usize

@@ -10,41 +10,23 @@ pub fn answer(kind: u32, args: &[u32], out: &mut [u32]) -> usize {
     if args.len() < 2 {
         return 0;
     }
-    if kind == 201 {
-        return word_numbers::two(
-            out,
-            0,
-            floats::bits32(ieee::narrowed(floats::at64(args, 0))),
-        );
-    }
+    let w = floats::at64(args, 0);
     if kind == 203 {
-        let b = floats::bits64(ieee::abs64(floats::at64(args, 0)));
+        let b = floats::bits64(ieee::abs64(w));
         return word_numbers::three(out, 0, (b % 4294967296) as u32, (b / 4294967296) as u32);
     }
-    of_f32(kind, floats::at32(args, 0), floats::at32(args, 1), out)
-}
-
-fn of_f32(kind: u32, x: f32, y: f32, out: &mut [u32]) -> usize {
-    if kind == 200 {
-        return word_numbers::two(out, 0, floats::bits32(ieee::root(x)));
-    }
-    if kind == 202 {
-        return word_numbers::two(out, 0, floats::bits32(ieee::abs32(x)));
-    }
-    if kind == 204 {
-        return word_numbers::two(out, 0, floats::bits32(ieee::max32(x, y)));
-    }
-    if kind == 205 {
-        return word_numbers::two(out, 0, word_numbers::flag(ieee::is_finite(x)));
-    }
-    if kind == 206 {
-        return word_numbers::two(out, 0, word_numbers::flag(ieee::before32(x, y)));
-    }
-    if kind == 207 {
-        return word_numbers::two(out, 0, ieee::to_u32(x));
-    }
-    if kind == 208 {
-        return word_numbers::two(out, 0, ieee::to_u8(x) as u32);
-    }
-    0
+    let x = floats::at32(args, 0);
+    let y = floats::at32(args, 1);
+    let value = match kind {
+        200 => floats::bits32(ieee::root(x)),
+        201 => floats::bits32(ieee::narrowed(w)),
+        202 => floats::bits32(ieee::abs32(x)),
+        204 => floats::bits32(ieee::max32(x, y)),
+        205 => word_numbers::flag(ieee::is_finite(x)),
+        206 => word_numbers::flag(ieee::before32(x, y)),
+        207 => ieee::to_u32(x),
+        208 => ieee::to_u8(x) as u32,
+        _ => return 0,
+    };
+    word_numbers::two(out, 0, value)
 }

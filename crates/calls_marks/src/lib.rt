@@ -6,8 +6,8 @@
 
 ghost use Rattle.std.specs.Prelude.{◌≡◌, ◌≤◌, ◌<◌, length};
 
-use marks::classify::Classified;
-use marks::correlate::{Best, Correlated};
+use marks::correlate::{Correlated, Pose};
+use refusal::Refusal;
 use word_numbers::floats;
 
 // The longest list of marks or lumas.
@@ -51,19 +51,15 @@ fn bit(words: &[u32], k: usize) -> bool {
 
 // The marks that words stand for.
 fn unpack(words: &[u32], marks: &mut [bool]) {
-    let mut k: usize = 0;
-    while k < marks.len() {
-        marks[k] = bit(words, k);
-        k += 1;
+    for (k, mark) in marks.iter_mut().enumerate() {
+        *mark = bit(words, k);
     }
 }
 
 // Every third mark light, as they are lent to `classify`.
 fn lend(marks: &mut [bool]) {
-    let mut k: usize = 0;
-    while k < marks.len() {
-        marks[k] = k % 3 == 0;
-        k += 1;
+    for (k, mark) in marks.iter_mut().enumerate() {
+        *mark = k % 3 == 0;
     }
 }
 
@@ -82,9 +78,7 @@ fn packed(marks: &[bool], at: usize) -> u32
     requires { at < 65536 }
 {
     let mut word: u32 = 0;
-    let mut k: usize = 32;
-    while 0 < k {
-        k -= 1;
+    for k in (0..32).rev() {
         word = (word % 2147483648) * 2 + mark_bit(marks, at + k);
     }
     word
@@ -95,10 +89,8 @@ fn pack_words(marks: &[bool], m: usize, out: &mut [u32])
     requires m_bound { m ≤ 64 }
     requires m_in_bounds { m < length out.old }
 {
-    let mut k: usize = 0;
-    while k < m {
+    for k in 0..m {
         out[k + 1] = packed(marks, 32 * k);
-        k += 1;
     }
 }
 
@@ -116,16 +108,16 @@ fn pack(marks: &[bool], out: &mut [u32]) -> usize
 }
 
 // The answer of `classify` as words.
-fn classified(kind: u32, answer: Classified, marks: &[bool], out: &mut [u32]) -> usize
+fn classified(kind: u32, answer: Result<(), Refusal>, marks: &[bool], out: &mut [u32]) -> usize
     requires { length marks.now ≤ 2048 }
 {
     match answer {
-        Classified::Done => pack(marks, out),
-        Classified::Refused(n) => {
+        Ok(()) => pack(marks, out),
+        Err(r) => {
             if kind == 701 {
                 return pack(marks, out);
             }
-            word_numbers::one(out, n)
+            word_numbers::one(out, r.number())
         }
     }
 }
@@ -151,49 +143,39 @@ fn classify(kind: u32, v: u32, m: usize, words: &[u32], out: &mut [u32]) -> usiz
 }
 
 // 0, then score, corner and reversal.
-fn put_best(out: &mut [u32], score: u32, corner: u32, reversed: u32)
+fn put_best(out: &mut [u32], best: Pose)
     requires { 12 ≤ length out.old }
 {
     out[0] = 0;
-    out[1] = score;
-    out[2] = corner;
-    out[3] = reversed;
-}
-
-// A pose with its eight counts.
-fn put_pose(out: &mut [u32], score: u32, corner: u32, reversed: u32, counts: [u16; 8]) -> usize {
-    if out.len() < 12 {
-        return 0;
-    }
-    put_best(out, score, corner, reversed);
-    put_counts(counts, out);
-    12
+    out[1] = floats::bits32(best.score);
+    out[2] = (best.corner % 4) as u32;
+    out[3] = word_numbers::flag(best.reversed);
 }
 
 // The eight counts behind four words.
 fn put_counts(counts: [u16; 8], out: &mut [u32])
     requires { 12 ≤ length out.old }
 {
-    let mut k: usize = 0;
-    while k < 8 {
+    for k in 0..8 {
         out[k + 4] = counts[k] as u32;
-        k += 1;
     }
 }
 
+// A pose with its eight counts.
+fn put_pose(out: &mut [u32], found: Correlated) -> usize {
+    if out.len() < 12 {
+        return 0;
+    }
+    put_best(out, found.best);
+    put_counts(found.counts, out);
+    12
+}
+
 // The answer of `correlate` as words.
-fn correlated(answer: Correlated, out: &mut [u32]) -> usize {
-    let best = answer.best;
-    let counts = answer.counts;
-    match best {
-        Best::Pose(score, corner, reversed) => put_pose(
-            out,
-            floats::bits32(score),
-            (corner % 4) as u32,
-            word_numbers::flag(reversed),
-            counts,
-        ),
-        Best::Refused(n) => word_numbers::one(out, n),
+fn correlated(answer: Result<Correlated, Refusal>, out: &mut [u32]) -> usize {
+    match answer {
+        Ok(found) => put_pose(out, found),
+        Err(r) => word_numbers::one(out, r.number()),
     }
 }
 

@@ -8,21 +8,16 @@
 
 ghost use Rattle.std.specs.Prelude.{◌≡◌, ◌≤◌, length};
 
-use math::{Found, Solution};
-use medians::Answer;
+use refusal::Refusal;
 use word_numbers::floats;
 
 pub fn answer(kind: u32, args: &[u32], out: &mut [u32]) -> usize {
-    if kind == 302 {
-        return median(args, out);
+    match kind {
+        302 => median(args, out),
+        303 => mad_sigma(args, out),
+        _ if 3 <= args.len() => lists(kind, args, out),
+        _ => 0,
     }
-    if kind == 303 {
-        return mad_sigma(args, out);
-    }
-    if args.len() < 3 {
-        return 0;
-    }
-    lists(kind, args, out)
 }
 
 // A call with two lists of f64, which begin behind their lengths.
@@ -42,25 +37,18 @@ fn lists(kind: u32, args: &[u32], out: &mut [u32]) -> usize
     if args.len() < rest {
         return 0;
     }
-    let mut x = room64();
-    let mut y = room64();
+    let mut x: [f64; 2048] = room(0.0);
+    let mut y: [f64; 2048] = room(0.0);
     floats::read64(&args[3..], &mut x);
     floats::read64(&args[rest..], &mut y);
     equations(kind, n, &x[..first], &y[..second], out)
 }
 
-// Room for the longest list of f64.
-fn room64() -> [f64; 2048]
-    ensures { 2048 ≡ length result }
+// Room for the longest list.
+fn room<T: Copy, const N: usize>(zero: T) -> [T; N]
+    ensures { N ≡ length result }
 {
-    [0f64; 2048]
-}
-
-// Room for the longest list of f32.
-fn room32() -> [f32; 5000]
-    ensures { 5000 ≡ length result }
-{
-    [0f32; 5000]
+    [zero; N]
 }
 
 // Calls the door.
@@ -71,13 +59,11 @@ fn equations(kind: u32, n: usize, a: &[f64], b: &[f64], out: &mut [u32]) -> usiz
     solution(math::least_squares(a, b, n), out)
 }
 
-fn solution(s: Solution, out: &mut [u32]) -> usize {
-    let found = s.found;
-    let x = s.x;
-    match found {
-        Found::Refused(k) => word_numbers::one(out, k as u32),
-        Found::Nothing => word_numbers::two(out, 0, 0),
-        Found::Solved => eight(x, out),
+fn solution(s: Result<Option<[f64; 8]>, Refusal>, out: &mut [u32]) -> usize {
+    match s {
+        Ok(Some(x)) => eight(x, out),
+        Ok(None) => word_numbers::two(out, 0, 0),
+        Err(r) => word_numbers::one(out, r.number()),
     }
 }
 
@@ -96,7 +82,7 @@ fn median(args: &[u32], out: &mut [u32]) -> usize {
     if 5000 < n {
         return 0;
     }
-    let mut x = room32();
+    let mut x: [f32; 5000] = room(0.0);
     median_of(args, &mut x[..n], out)
 }
 
@@ -104,10 +90,9 @@ fn median_of(args: &[u32], x: &mut [f32], out: &mut [u32]) -> usize
     requires { length x.old ≤ 5000 }
 {
     floats::read32(args, x);
-    let m = medians::median(x);
-    match m {
-        Answer::Number(y) => listed(y, x, out),
-        Answer::Refused(k) => word_numbers::one(out, k as u32),
+    match medians::median(x) {
+        Ok(y) => listed(y, x, out),
+        Err(r) => word_numbers::one(out, r.number()),
     }
 }
 
@@ -128,15 +113,14 @@ fn mad_sigma(args: &[u32], out: &mut [u32]) -> usize {
     if 5000 < n {
         return 0;
     }
-    let mut x = room32();
+    let mut x: [f32; 5000] = room(0.0);
     mad_sigma_of(args, &mut x[..n], out)
 }
 
 fn mad_sigma_of(args: &[u32], x: &mut [f32], out: &mut [u32]) -> usize {
     floats::read32(args, x);
-    let m = medians::mad_sigma(x);
-    match m {
-        Answer::Number(y) => word_numbers::two(out, 0, floats::bits32(y)),
-        Answer::Refused(k) => word_numbers::one(out, k as u32),
+    match medians::mad_sigma(x) {
+        Ok(y) => word_numbers::two(out, 0, floats::bits32(y)),
+        Err(r) => word_numbers::one(out, r.number()),
     }
 }

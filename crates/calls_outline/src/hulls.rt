@@ -1,8 +1,7 @@
 // Calls of hull and quad, and lent lists of numbers.
 ghost use Rattle.std.specs.Prelude.{◌≡◌, ◌≤◌, length};
 
-use hull::Hulled;
-use hull::points::{Corners, Quad};
+use hull::points::Quad;
 use word_numbers::floats;
 
 // Room for the longest list of numbers.
@@ -22,10 +21,8 @@ fn lent_number(k: usize) -> f32 {
 pub(crate) fn lend(list: &mut [f32])
     requires { length list.old ≤ 2048 }
 {
-    let mut k: usize = 0;
-    while k < list.len() {
-        list[k] = lent_number(k);
-        k += 1;
+    for (k, x) in list.iter_mut().enumerate() {
+        *x = lent_number(k);
     }
 }
 
@@ -33,10 +30,8 @@ pub(crate) fn lend(list: &mut [f32])
 fn put_floats(from: &[f32], out: &mut [u32], at: usize)
     requires { (length from.now ≤ 65536) × (at ≤ 65536) }
 {
-    let mut k: usize = 0;
-    while k < from.len() {
-        word_bytes::put(out, at + k, floats::bits32(from[k]));
-        k += 1;
+    for (k, x) in from.iter().enumerate() {
+        word_bytes::put(out, at + k, floats::bits32(*x));
     }
 }
 
@@ -72,10 +67,9 @@ fn hull_lent(p: &[f32], list: &mut [f32], out: &mut [u32]) -> usize
     requires { length list.old ≤ 2048 }
 {
     lend(list);
-    let answer = hull::convex_hull(p, list);
-    match answer {
-        Hulled::Vertices(n) => told(n, list, out),
-        Hulled::Refused(n) => word_numbers::one(out, n),
+    match hull::convex_hull(p, list) {
+        Ok(n) => told(n, list, out),
+        Err(refusal) => word_numbers::one(out, refusal.number()),
     }
 }
 
@@ -120,9 +114,8 @@ pub(crate) fn quad_call(args: &[u32], out: &mut [u32]) -> usize {
     }
     let mut p = room();
     floats::read32(args, &mut p);
-    let q = hull::quad(&p[..n]);
-    match q {
-        Corners::Found(f) => put_quad(f, out),
-        Corners::NoQuad => word_numbers::two(out, 0, 0),
+    match hull::quad(&p[..n]) {
+        Some(q) => put_quad(q, out),
+        None => word_numbers::two(out, 0, 0),
     }
 }

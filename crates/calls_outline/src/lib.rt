@@ -12,7 +12,7 @@
 
 ghost use Rattle.std.specs.Prelude.{◌≡◌, ◌≤◌, length};
 
-use outline::Answer;
+use refusal::Refusal;
 
 pub mod hulls;
 pub mod listings;
@@ -32,31 +32,25 @@ fn level_room() -> [u8; 128]
 }
 
 pub fn answer(kind: u32, args: &[u32], out: &mut [u32]) -> usize {
-    if kind == 602 {
-        return hulls::hull_call(args, out);
+    match kind {
+        600 | 601 => outline_call(kind, args, out),
+        602 => hulls::hull_call(args, out),
+        603 => hulls::quad_call(args, out),
+        604 => listings::listing_call(args, out),
+        _ => 0,
     }
-    if kind == 603 {
-        return hulls::quad_call(args, out);
-    }
-    if kind == 604 {
-        return listings::listing_call(args, out);
-    }
-    if 604 < kind {
-        return 0;
-    }
-    outline_call(kind, args, out)
 }
 
 // The answer of the outline door as words.
-fn outlined(kind: u32, a: Answer, list: &[f32], out: &mut [u32]) -> usize
+fn outlined(kind: u32, a: Result<usize, Refusal>, list: &[f32], out: &mut [u32]) -> usize
     requires { length list.now ≤ 2048 }
 {
     if kind == 601 {
         return hulls::listed(list, out);
     }
     match a {
-        Answer::Points(n) => hulls::told(n, list, out),
-        Answer::Refused(k) => word_numbers::one(out, k),
+        Ok(n) => hulls::told(n, list, out),
+        Err(refusal) => word_numbers::one(out, refusal.number()),
     }
 }
 

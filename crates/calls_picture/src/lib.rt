@@ -10,6 +10,7 @@
 ghost use Rattle.std.specs.Prelude.{◌≡◌, ◌≤◌, length};
 
 use crate::lists::{lend_bytes, lend_words, put_words};
+use refusal::Refusal;
 use regions::answer::{Kept, Region};
 use word_bytes::{put, put_bytes, unpack};
 use word_numbers::many;
@@ -61,23 +62,26 @@ fn put_regions(k: Kept, out: &mut [u32], at: usize)
     put_region(list[3], out, at + 20);
 }
 
-fn told(refused: u32, k: Kept, out: &mut [u32]) -> usize {
+// The answer.
+fn told(answer: Result<Kept, Refusal>, out: &mut [u32]) -> usize {
     if out.len() < 27 {
         return 0;
     }
-    put(out, 0, refused);
-    if refused != 0 {
-        return 1;
+    match answer {
+        Ok(k) => {
+            put(out, 0, 0);
+            put_regions(k, out, 1);
+            27
+        }
+        Err(r) => {
+            put(out, 0, r.number());
+            1
+        }
     }
-    put_regions(k, out, 1);
-    27
 }
 
 // How many places of the stack an accepted call needs.
-fn needed(refused: u32, w: usize, h: usize) -> usize {
-    if refused != 0 {
-        return 0;
-    }
+fn needed(w: usize, h: usize) -> usize {
     ((h % 8192 + 7) / 8) * ((w % 8192 + 7) / 8)
 }
 
@@ -129,9 +133,12 @@ fn run(
     lend_words(stack);
     let a = picture::picture(s, w, h, grid, labels, stack);
     if kind == 500 {
-        return told(a.refused, a.regions, out);
+        return told(a, out);
     }
-    left(a.refused, needed(a.refused, w, h), grid, labels, stack, out)
+    match a {
+        Ok(_) => left(0, needed(w, h), grid, labels, stack, out),
+        Err(r) => left(r.number(), 0, grid, labels, stack, out),
+    }
 }
 
 // Calls the door with lists of g, l and k places.

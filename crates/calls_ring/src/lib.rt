@@ -9,36 +9,25 @@
 // version, and with fewer than 26 words in 901 and 902.
 #![tactic(auto)]
 
-ghost use Rattle.std.specs.Prelude.{◌≡◌, ◌≤◌, length};
+ghost use Rattle.std.specs.Prelude.{◌≤◌, length};
 ghost use Rattle.search.specs.Samples.{Photo};
 
-use lcr_core::version::{Version, VersionAnswer};
+use lcr_core::version::Version;
 use picture_checks::check_picture;
 use search::versions::Goal;
-use transform::{Mapped, Transform};
+use transform::Transform;
 use word_numbers::floats;
 
 pub mod given;
 pub mod told;
 
-// Room for the lumas of any version.
-fn luma_room() -> [f32; 1112]
-    ensures { 1112 ≡ length result }
-{
-    [0f32; 1112]
-}
-
 pub fn answer(kind: u32, args: &[u32], out: &mut [u32]) -> usize {
-    if kind == 900 {
-        return mapped(args, out);
+    match kind {
+        900 => mapped(args, out),
+        901 => pictured(kind, args, 26, out),
+        902 => pictured(kind, args, 16, out),
+        _ => 0,
     }
-    if kind == 901 {
-        return pictured(kind, args, 26, out);
-    }
-    if kind == 902 {
-        return pictured(kind, args, 16, out);
-    }
-    0
 }
 
 fn mapped(args: &[u32], out: &mut [u32]) -> usize {
@@ -48,8 +37,8 @@ fn mapped(args: &[u32], out: &mut [u32]) -> usize {
     let side = (args[11] % 65536) as u16;
     let m = search::geometry::ring_transform(given::quad(args, 0), side, given::lens(args, 8));
     match m {
-        Mapped::None => word_numbers::two(out, 0, 0),
-        Mapped::Some(t) => told::map(t, out),
+        None => word_numbers::two(out, 0, 0),
+        Some(t) => told::map(t, out),
     }
 }
 
@@ -74,9 +63,9 @@ fn sized(kind: u32, args: &[u32], gray: &[u8], out: &mut [u32]) -> usize
 {
     let w = word_numbers::many(args[0]);
     let h = word_numbers::many(args[1]);
-    if check_picture(w, h, gray.len()) != 0 {
+    let Ok(_) = check_picture(w, h, gray.len()) else {
         return 0;
-    }
+    };
     read(kind, args, gray, w, h, out)
 }
 
@@ -103,10 +92,10 @@ fn read(kind: u32, args: &[u32], gray: &[u8], w: usize, h: usize, out: &mut [u32
 fn lumas(gray: &[u8], w: usize, h: usize, t: Transform, v: u32, out: &mut [u32]) -> usize
     requires { Photo gray.now w h }
 {
-    let VersionAnswer::Known(version) = Version::new(v) else {
+    let Ok(version) = Version::new(v) else {
         return 0;
     };
-    let mut list = luma_room();
+    let mut list = [0.0f32; 1112];
     let n = version.positions();
     search::lumas::ring_lumas(gray, w, h, t, version, &mut list[..n]);
     told::numbers(&list[..n], out)

@@ -50,10 +50,8 @@ fn put_score(s: Score, out: &mut [u32], at: usize)
 fn put_list(list: [Score; 64], n: usize, out: &mut [u32], at: usize)
     requires { (n ≤ 64) × (at ≤ 700) }
 {
-    let mut k: usize = 0;
-    while k < n {
+    for k in 0..n {
         put_score(list[k], out, at + 4 * k);
-        k += 1;
     }
 }
 

@@ -6,29 +6,16 @@
 //                                               0, 1, eleven f64, x, y; 0, 0 for none
 #![tactic(auto)]
 
-use transform::{Mapped, Pixel, Transform};
+use transform::{Pixel, Transform};
 use word_numbers::floats;
 
 pub fn answer(kind: u32, args: &[u32], out: &mut [u32]) -> usize {
-    if kind == 400 {
-        if args.len() < 16 {
-            return 0;
-        }
-        return quad(args, out);
+    match kind {
+        400 if 16 <= args.len() => quad(args, out),
+        401 if 24 <= args.len() => place(args, out),
+        402 if 21 <= args.len() => both(args, out),
+        _ => 0,
     }
-    if kind == 401 {
-        if args.len() < 24 {
-            return 0;
-        }
-        return place(args, out);
-    }
-    if kind == 402 {
-        if args.len() < 21 {
-            return 0;
-        }
-        return both(args, out);
-    }
-    0
 }
 
 // The f32 numbers of a quad.
@@ -39,25 +26,22 @@ fn eight(args: &[u32]) -> [f32; 8] {
 }
 
 // The transform of the first sixteen words.
-fn fitted(args: &[u32]) -> Mapped {
+fn fitted(args: &[u32]) -> Option<Transform> {
     if args.len() < 16 {
-        return Mapped::None;
+        return None;
     }
     transform::from_quad(eight(&args[..8]), eight(&args[8..16]))
 }
 
 // The eleven numbers of a transform.
 pub fn numbers(t: Transform) -> [f64; 11] {
-    [
-        t.m0, t.m1, t.m2, t.m3, t.m4, t.m5, t.m6, t.m7, t.cx, t.cy, t.kappa,
-    ]
+    t.into()
 }
 
 fn quad(args: &[u32], out: &mut [u32]) -> usize {
-    let m = fitted(args);
-    match m {
-        Mapped::None => word_numbers::two(out, 0, 0),
-        Mapped::Some(t) => coefficients(numbers(t), out),
+    match fitted(args) {
+        None => word_numbers::two(out, 0, 0),
+        Some(t) => coefficients(numbers(t), out),
     }
 }
 
@@ -95,10 +79,9 @@ fn place(args: &[u32], out: &mut [u32]) -> usize {
 }
 
 fn both(args: &[u32], out: &mut [u32]) -> usize {
-    let m = fitted(args);
-    match m {
-        Mapped::None => word_numbers::two(out, 0, 0),
-        Mapped::Some(t) => bent(t, args, out),
+    match fitted(args) {
+        None => word_numbers::two(out, 0, 0),
+        Some(t) => bent(t, args, out),
     }
 }
 

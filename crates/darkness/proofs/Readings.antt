@@ -3,7 +3,7 @@ use mathlib.Core.Bool.{false}
 use mathlib.Core.List.{List}
 use mathlib.Core.Path.{◌∙◌, ◌≡◌, ap}
 use Prim.Native.Nat.{◌*◌, ◌+◌, ◌/◌, ◌<◌, ◌≤◌, ℕ}
-use native.Mathlib.Nat.{mul_comm}
+use native.Mathlib.Nat.{mul_comm, mul-le-mul_right}
 use native.Mathlib.Omega.{arith}
 use lib.ListN.{length}
 use Rattle.laws.proofs.Folds.{length-written}
@@ -17,6 +17,10 @@ use Rattle.darkness.specs.Claims.{FourReads}
 use Rattle.darkness.specs.Darkness.{box_ink, box_number, ink_before, ink_in}
 use Rattle.darkness.specs.Door.{is_bad_box}
 use Rattle.darkness.specs.Inner.{Readable, four_reads, reads_of}
+
+-- the upper row of a box begins no later than the lower
+pub rows_apart : {table : List ℕ} {w x0 y0 x1 y1 : ℕ} → Readable table w x0 y0 x1 y1 → y0 * (w + 1) ≤ y1 * (w + 1)
+rows_apart {w = w} r = mul-le-mul_right (w + 1) r.top
 
 module _ (f : Plane) (small : (x y : ℕ) → f x y ≤ 1) (w h : ℕ) (wide : w ≤ 4096) (high : h ≤ 4096) (old table : List ℕ)
     (is : table ≡ drawn (w + 1) (h + 1) (ink_before f) old) (room : (w + 1) * (h + 1) ≤ length old) where

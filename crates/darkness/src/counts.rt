@@ -7,6 +7,7 @@ ghost use Rattle.darkness.specs.Inner.{Readable, four_reads, reads_of};
 use crate::refusals::{Part, box_at};
 
 // The count of one box. The two counts that are taken off are no more than the two before them.
+#[tactic(auto, using(crate::proofs::Readings::rows_apart))]
 fn count_of(table: &[u32], w: usize, b: Part) -> u32
     requires { Readable table.now w b.x0 b.y0 b.x1 b.y1 }
     ensures { result ≡ four_reads table.now w b.x0 b.y0 b.x1 b.y1 }
@@ -28,9 +29,7 @@ pub fn count_all(boxes: &[u32], w: usize, table: &[u32], counts: &mut [u32])
         (reads_of table.now w boxes.now) counts.old }
 {
     let n = boxes.len() / 4;
-    let mut i = 0;
-    while i < n {
+    for i in 0..n {
         counts[i] = count_of(table, w, box_at(boxes, i));
-        i += 1;
     }
 }

@@ -3,11 +3,13 @@
 #![tactic(auto)]
 
 ghost use Rattle.std.specs.Prelude.{◌≡◌, length};
+ghost use Rattle.refusal.specs.Numbers.{number_in};
 ghost use Rattle.darkness.specs.Door.{check_darkness, table_after, counts_after};
 
 use crate::counts::count_all;
 use crate::refusals::check;
 use crate::table::fill_table;
+use refusal::Refusal;
 
 pub mod claims;
 mod counts;
@@ -17,10 +19,10 @@ mod table;
 // The number of ink pixels of each box of a picture of w by h: of the bytes s, by the thresholds of
 // the level cells in levels. Boxes are x0, y0, x1, y1 by fours, the last two exclusive. Lent: a
 // table of (w + 1) × (h + 1) numbers, which holds the running counts afterwards, and a place of
-// counts for each box. The answer is 0, or the number of a refusal, which changes nothing: 1, a
-// side outside 1..4,096; 2, bytes not w × h; 3, a level grid shorter than its cells, a table too
-// short, or fewer places for counts than whole fours of box numbers; 18, the list of boxes is not
-// whole fours of numbers, or has a box with x0 > x1 or y0 > y1 or past the picture's edge.
+// counts for each box. A refusal changes nothing: 1, a side outside 1..4,096; 2, bytes not w × h;
+// 3, a level grid shorter than its cells, a table too short, or fewer places for counts than whole
+// fours of box numbers; 18, the list of boxes is not whole fours of numbers, or has a box with
+// x0 > x1 or y0 > y1 or past the picture's edge.
 pub fn darkness(
     s: &[u8],
     levels: &[u8],
@@ -29,16 +31,16 @@ pub fn darkness(
     boxes: &[u32],
     table: &mut [u32],
     counts: &mut [u32],
-) -> u32
-    ensures number { result ≡ check_darkness w h (length s.now) (length levels.now)
+) -> Result<(), Refusal>
+    ensures number { number_in result ≡ check_darkness w h (length s.now) (length levels.now)
         (length table.old) (length counts.old) boxes.now }
     ensures table { table.new
-        ≡ table_after result s.now levels.now w h table.old }
+        ≡ table_after (number_in result) s.now levels.now w h table.old }
     ensures counts { counts.new
-        ≡ counts_after result s.now levels.now w boxes.now
+        ≡ counts_after (number_in result) s.now levels.now w boxes.now
         counts.old }
 {
-    let no = check(
+    check(
         w,
         h,
         s.len(),
@@ -46,11 +48,8 @@ pub fn darkness(
         table.len(),
         counts.len(),
         boxes,
-    );
-    if no != 0 {
-        return no;
-    }
+    )?;
     fill_table(s, levels, w, h, table);
     count_all(boxes, w, table, counts);
-    0
+    Ok(())
 }

@@ -11,14 +11,6 @@ ghost use Rattle.darkness.specs.Inner.{Sized, CountSpot, TableHeld, CountedTo, c
 use levels::cells::cells_of;
 use regions::clearing::clear;
 
-// 1 for a byte below the threshold.
-fn one_below(v: u8, t: u8) -> u32
-    ensures answer { result ≡ bit (ltb v t) }
-    ensures most { result ≤ 1 }
-{
-    if v < t { 1 } else { 0 }
-}
-
 // Place (x, y) of a list in rows of n.
 fn place(n: usize, x: usize, y: usize) -> usize
     requires { (n ≤ 4097) × (x ≤ 4097) × (y ≤ 4097) }
@@ -54,7 +46,7 @@ fn put_count(
     ensures table { table.new
         ≡ set table.old down (get_or table.old up 0 + result) }
 {
-    let n = sum + one_below(s[pixel], t);
+    let n = sum + u32::from(s[pixel] < t);
     table[down] = table[up] + n;
     n
 }
@@ -83,10 +75,8 @@ fn fill_columns(
     let up = place(w + 1, 16 * c + 1, y);
     let down = up + (w + 1);
     let mut n = sum;
-    let mut i = 0;
-    while i < m {
+    for i in 0..m {
         n = put_count(s, table, t, pixel + i, up + i, down + i, n);
-        i += 1;
     }
     n
 }
@@ -128,10 +118,8 @@ fn fill_row(s: &[u8], levels: &[u8], w: usize, h: usize, table: &mut [u32], y: u
     table[first] = 0;
     let n = cells_of(w);
     let mut sum = 0;
-    let mut c = 0;
-    while c < n {
+    for c in 0..n {
         sum = fill_cell(s, levels, w, h, table, c, y, sum);
-        c += 1;
     }
 }
 
@@ -152,9 +140,7 @@ pub fn fill_table(s: &[u8], levels: &[u8], w: usize, h: usize, table: &mut [u32]
         table.old }
 {
     clear_front(table, w + 1);
-    let mut y = 0;
-    while y < h {
+    for y in 0..h {
         fill_row(s, levels, w, h, table, y);
-        y += 1;
     }
 }

@@ -12,6 +12,8 @@ use mathlib.Core.List.{List, [], ◌∷◌, ◌++◌}
 use Prim.Native.Nat.{ℕ, zero, suc, ◌+◌, ◌-◌, ◌≤◌, ◌<◌}
 use native.Mathlib.Nat.{sub-zero}
 use native.Mathlib.Omega.{arith}
+use Rattle.std.proofs.Common.{Result, Ok, Err}
+use Rattle.std.specs.Result.{IsErr}
 use lib.Dec.{leb}
 use lib.ListN.{length, get_or, drop, length-map, get_or-map}
 use lib.Seq.{ext_get_or}
@@ -26,6 +28,9 @@ use Rattle.laws.proofs.Stores.{get_d_any}
 use Rattle.hull.specs.Points.{half_of, numbers_of, floats_of}
 use Rattle.hull.proofs.Exact.{half-val}
 use Rattle.laws.specs.Lent.{laid}
+use Rattle.refusal.specs.Numbers.{number_of, number_in}
+use Rattle.refusal.specs.declared.Refusal.{Refusal}
+use Rattle.refusal.proofs.Numbers.{number-some}
 use Rattle.doubled.specs.Checks.{coordinates_on, coordinates_of}
 use Rattle.doubled.specs.Doubled.{doubled_of, twice_of, twices, doubled_after}
 use Rattle.doubled.specs.Claims.{DoubledIs}
@@ -85,10 +90,13 @@ module _ (p : List Float) (k t : ℕ) (z : Bool) (more : k < length p) (is : t �
   half-stop l = good-stop (twices p) (length p) k z more q (subst (λ (n : ℕ). 8192 < n) (is ∙ sym (twice-at p k more)) l)
 
 -- ---- the lent list
-pub doubled-refused : (n : ℕ) (l : List Float) (old : List ℕ) → (n ≡ 0 → ⊥) → old ≡ doubled_after n l old
-unfolding doubled_after
-doubled-refused zero l old some = absurd (some refl)
-doubled-refused (suc n) l old some = refl
+pub doubled-refused : {A : Type 0} (r : Result A Refusal) (l : List Float) (old : List ℕ) → IsErr r → old ≡ doubled_after (number_in r) l old
+doubled-refused (Ok a) l old e = cc
+doubled-refused (Err r) l old e = go (number_of r) (number-some r)
+  where
+    go : (n : ℕ) → 0 < n → old ≡ doubled_after n l old
+    go zero some = absurd (omega arith)
+    go (suc n) some = unfold doubled_after in refl
 
 -- ---- halves
 twice_half : (n : ℕ) → n ≤ 8192 → twice_of (half_of n) ≡ n

@@ -9,10 +9,12 @@
 
 ghost use Rattle.std.specs.Prelude.{◌≡◌, ◌≤◌, length};
 ghost use Rattle.laws.specs.Lent.{laid};
+ghost use Rattle.refusal.specs.Numbers.{number_in};
 ghost use Rattle.doubled.specs.Checks.{coordinates_of};
 ghost use Rattle.doubled.specs.Doubled.{twice_of, twices, check_doubled, doubled_after};
 
 use picture_checks::is_points;
+use refusal::Refusal;
 
 pub mod claims;
 pub mod coordinates;
@@ -37,30 +39,28 @@ fn twice(x: f32) -> u32
 fn halves(p: &[f32]) -> bool
     ensures { result ≡ coordinates_of (twices p.now) }
 {
-    let mut k = 0usize;
-    while k < p.len() {
-        if 8192 < twice(p[k]) {
+    for x in p {
+        if 8192 < twice(*x) {
             return false;
         }
-        k += 1;
     }
     true
 }
 
-// The number of the first check that fails; room is the length of the lent list.
-fn check(p: &[f32], room: usize) -> u32
-    ensures { result ≡ check_doubled p.now room }
+// The first check that fails; room is the length of the lent list.
+fn check(p: &[f32], room: usize) -> Result<(), Refusal>
+    ensures { number_in result ≡ check_doubled p.now room }
 {
     if !is_points(p.len()) {
-        return 6;
+        return Err(Refusal::Points);
     }
     if room < p.len() {
-        return 3;
+        return Err(Refusal::Lent);
     }
     if !halves(p) {
-        return 21;
+        return Err(Refusal::Doubled);
     }
-    0
+    Ok(())
 }
 
 // Stores twice each number of p in out. The places past them stay as they are.
@@ -68,24 +68,18 @@ fn fill(p: &[f32], out: &mut [u32])
     requires { length p.now ≤ length out.old }
     ensures { out.new ≡ laid (twices p.now) out.old }
 {
-    let n = p.len();
-    let mut k = 0usize;
-    while k < n {
-        out[k] = twice(p[k]);
-        k += 1;
+    for (k, x) in p.iter().enumerate() {
+        out[k] = twice(*x);
     }
 }
 
-// Stores twice each number of the points p in out, as whole numbers from 0 to 8,192, and returns 0;
-// or returns the number of the refusal, and changes nothing.
-pub fn doubled(p: &[f32], out: &mut [u32]) -> u32
-    ensures answer { result ≡ check_doubled p.now (length out.old) }
-    ensures out { out.new ≡ doubled_after result p.now out.old }
+// Stores twice each number of the points p in out, as whole numbers from 0 to 8,192. A refusal
+// changes nothing.
+pub fn doubled(p: &[f32], out: &mut [u32]) -> Result<(), Refusal>
+    ensures answer { number_in result ≡ check_doubled p.now (length out.old) }
+    ensures out { out.new ≡ doubled_after (number_in result) p.now out.old }
 {
-    let no = check(p, out.len());
-    if no == 0 {
-        fill(p, out);
-        return 0;
-    }
-    no
+    check(p, out.len())?;
+    fill(p, out);
+    Ok(())
 }

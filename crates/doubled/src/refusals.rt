@@ -1,8 +1,10 @@
-// The checks of a list of points in whole numbers, in order: 6, 3, 21. 0 is none of them.
+// The checks of a list of points in whole numbers, in order: 6, 3, 21.
 ghost use Rattle.std.specs.Prelude.{◌≡◌, ◌<◌, ◌≤◌, length};
+ghost use Rattle.refusal.specs.Numbers.{number_in};
 ghost use Rattle.doubled.specs.Checks.{coordinates_of, check_hull, check_quad};
 
 use picture_checks::is_points;
+use refusal::Refusal;
 
 // 1 for a number past 8,192, else 0.
 fn beyond(n: u32) -> u32
@@ -20,11 +22,9 @@ fn coordinates(p: &[u32]) -> bool
     requires { length p.now ≤ 32768 }
     ensures { result ≡ coordinates_of p.now }
 {
-    let mut k = 0usize;
     let mut past = 0u32;
-    while k < p.len() {
-        past += beyond(p[k]);
-        k += 1;
+    for n in p {
+        past += beyond(*n);
     }
     if past == 0 {
         return true;
@@ -32,31 +32,31 @@ fn coordinates(p: &[u32]) -> bool
     false
 }
 
-// The number of the first check that fails; room is the length of the lent list.
-pub fn check_hull(p: &[u32], room: usize) -> u32
-    ensures { result ≡ check_hull p.now room }
+// The first check that fails; room is the length of the lent list.
+pub fn check_hull(p: &[u32], room: usize) -> Result<(), Refusal>
+    ensures { number_in result ≡ check_hull p.now room }
 {
     if !is_points(p.len()) {
-        return 6;
+        return Err(Refusal::Points);
     }
     if room < p.len() {
-        return 3;
+        return Err(Refusal::Lent);
     }
     if !coordinates(p) {
-        return 21;
+        return Err(Refusal::Doubled);
     }
-    0
+    Ok(())
 }
 
 // The same where no list is lent.
-pub fn check_quad(p: &[u32]) -> u32
-    ensures { result ≡ check_quad p.now }
+pub fn check_quad(p: &[u32]) -> Result<(), Refusal>
+    ensures { number_in result ≡ check_quad p.now }
 {
     if !is_points(p.len()) {
-        return 6;
+        return Err(Refusal::Points);
     }
     if !coordinates(p) {
-        return 21;
+        return Err(Refusal::Doubled);
     }
-    0
+    Ok(())
 }

@@ -1,6 +1,6 @@
 -- Dots in a plane, one by one.
 --     In, in-picture, in-set         a spot in the picture: what the test tells, and back
---     side-early, side-late, both-in, first_out, passed, failed   the test's answers, as the code makes them
+--     passed, failed                 what the test's answer tells
 --     dot-in, dot-out                one dot, in the picture and outside
 --     place-fits                     its place does not wrap, and is within
 --     dots-none, dots-more, dots-length, dot-length
@@ -15,7 +15,7 @@ use native.Mathlib.Numerals.{add-one}
 use native.Mathlib.Omega.{arith}
 use lib.Dec.{leb, ltb}
 use lib.ListN.{length, set, length-set}
-use borrow.Author.Tests.{ltb-true, leb-true, lt-ltb, le-leb, lt-leb}
+use borrow.Author.Tests.{ltb-true, leb-true, lt-ltb, le-leb}
 use Rattle.laws.proofs.Bools.{both, and_left, and_right}
 use Rattle.laws.proofs.Planes.{place-lt}
 use Rattle.picture_checks.specs.Picture.{Sides}
@@ -45,19 +45,6 @@ in-set w h x y i =
     both (on_side w x) (on_side h y)
     (both (leb 32768 x) (ltb (x - 32768) w) (le-leb 32768 x i.x-from) (lt-ltb (x - 32768) w i.x-under))
     (both (leb 32768 y) (ltb (y - 32768) h) (le-leb 32768 y i.y-from) (lt-ltb (y - 32768) h i.y-under))
-
--- ---- the test, as the code makes it
-pub side-early : (n x : ℕ) → x < 32768 → false ≡ on_side n x
-side-early n x l = ap (λ (t : Bool). t && ltb (x - 32768) n) (sym (lt-leb 32768 x l))
-
-pub side-late : (n x : ℕ) → 32768 ≤ x → ltb (x - 32768) n ≡ on_side n x
-side-late n x l = ap (λ (t : Bool). t && ltb (x - 32768) n) (sym (le-leb 32768 x l))
-
-pub both-in : (p q r s : Bool) → r ≡ p → r ≡ true → s ≡ q → s ≡ (p && q)
-both-in p q r s e t f = f ∙ ap (λ (b : Bool). b && q) (sym t ∙ e)
-
-pub first_out : (p q r : Bool) → r ≡ p → r ≡ false → false ≡ (p && q)
-first_out p q r e t = ap (λ (b : Bool). b && q) (sym t ∙ e)
 
 -- what a test's answer tells of the test
 pub passed : {p t : Bool} → t ≡ p → t ≡ true → p ≡ true

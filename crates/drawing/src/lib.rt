@@ -2,9 +2,8 @@
 // the picture whatever its ends are.
 #![tactic(auto)]
 
-ghost use Rattle.std.specs.Prelude.{◌&&◌, ◌≡◌, ◌+◌, ◌≤◌, ◌<◌, max, length};
+ghost use Rattle.std.specs.Prelude.{◌&&◌, ◌≡◌, ◌+◌, ◌≤◌, ◌<◌, length};
 ghost use Rattle.picture_checks.specs.Picture.{Sides};
-ghost use Rattle.laws.specs.Gap.{gap};
 ghost use Rattle.drawing.specs.Lines.{steps_of, line_point, on_side, dot_on, dots_on, line_on};
 
 pub mod claims;
@@ -18,32 +17,14 @@ pub struct Spot {
     pub y: u16,
 }
 
-// How far two numbers are apart.
-fn apart(a: u16, b: u16) -> usize
-    ensures answer { result ≡ gap a b }
-    ensures most { result ≤ 65535 }
-{
-    if a < b {
-        return (b - a) as usize;
-    }
-    (a - b) as usize
-}
-
-// The larger of two numbers.
-fn larger(a: usize, b: usize) -> usize
-    ensures { result ≡ max a b }
-{
-    if a < b { b } else { a }
-}
-
 // The steps of a line.
 fn steps(a: Spot, b: Spot) -> usize
     ensures answer { result ≡ steps_of a b }
     ensures bounds { (1 ≤ result) × (result ≤ 65535) }
 {
-    let across = apart(a.x, b.x);
-    let down = apart(a.y, b.y);
-    larger(1, larger(across, down))
+    let across = a.x.abs_diff(b.x);
+    let down = a.y.abs_diff(b.y);
+    across.max(down).max(1) as usize
 }
 
 // The number after k of n even steps from a to b.
@@ -60,20 +41,14 @@ fn between(a: u16, b: u16, n: usize, k: usize) -> usize
 fn on_side(n: usize, x: usize) -> bool
     ensures { result ≡ on_side n x }
 {
-    if x < 32768 {
-        return false;
-    }
-    x - 32768 < n
+    32768 <= x && x - 32768 < n
 }
 
 // Whether a spot lies in the picture.
 fn inside(w: usize, h: usize, x: usize, y: usize) -> bool
     ensures { result ≡ (on_side w x && on_side h y) }
 {
-    if on_side(w, x) {
-        return on_side(h, y);
-    }
-    false
+    on_side(w, x) && on_side(h, y)
 }
 
 // One point, where it lies in the picture.
@@ -94,12 +69,10 @@ fn dots(plane: &mut [u8], w: usize, h: usize, a: Spot, b: Spot, colour: u8)
         ≡ dots_on w h a b colour (steps_of a b + 1) plane.old }
 {
     let n = steps(a, b);
-    let mut k: usize = 0;
-    while k <= n {
+    for k in 0..n + 1 {
         let x = between(a.x, b.x, n, k);
         let y = between(a.y, b.y, n, k);
         dot(plane, w, h, x, y, colour);
-        k += 1;
     }
 }
 
@@ -108,8 +81,8 @@ fn dots(plane: &mut [u8], w: usize, h: usize, a: Spot, b: Spot, colour: u8)
 pub fn line(plane: &mut [u8], w: usize, h: usize, a: Spot, b: Spot, colour: u8)
     ensures { plane.new ≡ line_on w h a b colour plane.old }
 {
-    if picture_checks::check_picture(w, h, plane.len()) != 0 {
-        return;
+    match picture_checks::check_picture(w, h, plane.len()) {
+        Ok(()) => dots(plane, w, h, a, b, colour),
+        Err(_) => {}
     }
-    dots(plane, w, h, a, b, colour);
 }

@@ -8,8 +8,7 @@ use crate::{Spot, between, line};
 fn limited(x: f32) -> u16
     ensures { result ≤ 32767 }
 {
-    let t = ieee::to_u32(x);
-    if t < 32767 { t as u16 } else { 32767 }
+    ieee::to_u32(x).min(32767) as u16
 }
 
 // The least whole number of pixels that is not below a place from 0 up; at most 32,768.
@@ -55,12 +54,10 @@ fn after(i: usize, n: usize) -> usize
 // The outline through the points of a list of alternating x and y, from the last to the first too.
 pub fn closed(plane: &mut [u8], w: usize, h: usize, points: &[f32], colour: u8) {
     let n = points.len() / 2;
-    let mut i: usize = 0;
-    while i < n {
+    for i in 0..n {
         let a = spot_at(points, i);
         let b = spot_at(points, after(i, n));
         line(plane, w, h, a, b, colour);
-        i += 1;
     }
 }
 
@@ -74,7 +71,7 @@ fn pixel(c: usize, r: usize) -> Spot {
 
 // A spot's number of column or row n.
 fn numbered(n: usize) -> u16 {
-    if n < 32767 { 32768 + n as u16 } else { 65535 }
+    32768 + n.min(32767) as u16
 }
 
 // The outermost pixels of a box, from pixel (x0, y0), which is within, to (x1, y1), which is not.
@@ -104,12 +101,8 @@ pub fn box_outline(
     line(plane, w, h, d, a, colour);
 }
 
-// A number less two, or 0.
-fn two_less(n: u16) -> u16 {
-    if n < 2 { 0 } else { n - 2 }
-}
-
 // A number and d more, or the last.
+// Kept: past 65,531 it is the last whatever d is, which the library's `saturating_add` is not.
 fn more(n: u16, d: u16) -> u16
     requires { d ≤ 4 }
 {
@@ -118,16 +111,14 @@ fn more(n: u16, d: u16) -> u16
 
 // A filled square of five by five pixels about a spot.
 pub fn square(plane: &mut [u8], w: usize, h: usize, s: Spot, colour: u8) {
-    let left = two_less(s.x);
-    let top = two_less(s.y);
+    let left = s.x.saturating_sub(2);
+    let top = s.y.saturating_sub(2);
     let right = more(left, 4);
-    let mut j: u16 = 0;
-    while j < 5 {
+    for j in 0..5u16 {
         let y = more(top, j);
-        let a = Spot { x: left, y: y };
-        let b = Spot { x: right, y: y };
+        let a = Spot { x: left, y };
+        let b = Spot { x: right, y };
         line(plane, w, h, a, b, colour);
-        j += 1;
     }
 }
 

@@ -2,8 +2,8 @@
 -- picture-taken, the picture door's answer in it; given_is, refused-is.
 --     a check that follows others: then-first, then_next, refuse-not, refuse-on, find-grids, find-short, find-version, find_none
 --     what an accepted call knows: Passed, passed, picture-taken
---     the answer: given_is, refused-is
---     the lent lists: number_is, number-given, refused-levels, refused-labels, refused-stack, given-past
+--     the answer: given-none, given_is, refused-is
+--     the lent lists: refused-levels, refused-labels, refused-stack, given-past
 -- Assumes nothing.
 use mathlib.Core.Path.{◌≡◌, refl, sym, ap, ◌∙◌}
 use mathlib.Core.Bool.{Bool, true, false}
@@ -17,6 +17,7 @@ use borrow.Author.Tests.{leb-true, eqb-true, ne_eqb}
 use Rattle.laws.specs.Check.{or_refuse}
 use Rattle.laws.specs.Plane.{plane}
 use Rattle.laws.specs.Lent.{UntouchedPast}
+use Rattle.laws.specs.Said.{Said, refuse, give}
 use Rattle.laws.proofs.Bools.{and_left, and_right}
 use Rattle.picture_checks.specs.Picture.{is_side}
 use Rattle.picture_checks.proofs.Checked.{check-step, side-in}
@@ -27,14 +28,12 @@ use Rattle.picture.specs.Door.{check_grids, picture_answer, levels_after, labels
 use Rattle.regions.specs.Regions.{kept_regions}
 use Rattle.picture.specs.Door as door
 use Rattle.regions.specs.declared.answer.Kept.{Kept}
-use Rattle.picture.specs.declared.answer.PictureAnswer.{PictureAnswer}
 use Rattle.ring.specs.Checks.{has_room}
 use Rattle.ring.proofs.Passing.{room_in, version-in}
 use Rattle.ring.specs.declared.quads.Trace.{Trace}
-use Rattle.ring.specs.declared.door.Outcome.TheVariants.{Given}
 use Rattle.region_outline.specs.Region.{need_of}
-use Rattle.finder.specs.declared.Answer.{Answer}
-use Rattle.finder.specs.Find.{has_rooms, then_check, check_find, refused_by, answer_by, trace_of, number_of, needed_of}
+use Rattle.finder.specs.declared.Found.{Found}
+use Rattle.finder.specs.Find.{has_rooms, then_check, check_find, answer_by, trace_of, needed_of}
 
 -- ---- a check that follows others
 pub then-first : (n m rest : ℕ) → n ≡ m → (n ≡ 0 → ⊥) → n ≡ then_check m rest
@@ -110,54 +109,51 @@ passed w h bytes levels labels stack a b c d most e =
       version = version-in most u.0;
     }
 
--- the picture door's answer in an accepted call
-taken : (a : PictureAnswer) (n : ℕ) (k : Kept) → a ≡ door.answer_by n k → n ≡ 0 → (a.refused ≡ 0) × (a.regions ≡ k)
-taken a n k e z =
-    let q = e ∙ ap (λ (m : ℕ). door.answer_by m k) z in
-    (ap (λ (x : PictureAnswer). x.refused) q, ap (λ (x : PictureAnswer). x.regions) q)
+-- the regions that the picture door gives
+taken : (k : Kept) (n : ℕ) (r : Kept) → give k ≡ door.answer_by n r → k ≡ r
+taken k zero r e = cc
+taken k (suc n) r e = cc
 
-pub picture-taken : (s : List ℕ) (w h levels labels stack : ℕ) (a : PictureAnswer) → a ≡ picture_answer s w h levels labels stack
-    → check_grids w h (length s) levels labels stack ≡ 0 → (a.refused ≡ 0) × (a.regions ≡ kept_regions (plane w s) w h)
-picture-taken s w h levels labels stack a e z =
-    taken a (check_grids w h (length s) levels labels stack) (kept_regions (plane w s) w h) e z
+pub picture-taken : (s : List ℕ) (w h levels labels stack : ℕ) (k : Kept) → give k ≡ picture_answer s w h levels labels stack
+    → k ≡ kept_regions (plane w s) w h
+picture-taken s w h levels labels stack k e =
+    taken k (check_grids w h (length s) levels labels stack) (kept_regions (plane w s) w h) e
 
 -- ---- the answer
+-- where the picture is made ready, no check refuses
+pub given-none : (n : ℕ) (k r : Kept) → give k ≡ door.answer_by n r → n ≡ 0
+given-none zero k r e = refl
+given-none (suc n) k r e = cc
+
+abbrev pub found : ℕ → Trace → Said Found
+found m t = give (record { regions = m; trace = t })
+
 module _ (gray : List ℕ) (w h most : ℕ) where
   pub given_is : (n m : ℕ) (t : Trace) → n ≡ 0 → m ≡ groups_of (plane w gray) w h → t ≡ trace_of gray w h most
-      → record { outcome = Given; regions = m; trace = t } ≡ answer_by n gray w h most
+      → found m t ≡ answer_by n gray w h most
   unfolding answer_by
   given_is n m t z em e =
-      ap (λ (m : ℕ). record { outcome = Given; regions = m; trace = t }) em
-      ∙ ap (λ (t : Trace). record { outcome = Given; regions = groups_of (plane w gray) w h; trace = t }) e
+      ap (λ (m : ℕ). found m t) em
+      ∙ ap (λ (t : Trace). found (groups_of (plane w gray) w h) t) e
       ∙ sym (ap (λ (n : ℕ). answer_by n gray w h most) z)
 
-  refused-by : (n : ℕ) → (n ≡ 0 → ⊥) → refused_by n ≡ answer_by n gray w h most
+  pub refused-is : (n m : ℕ) (k : Kept) → refuse n ≡ door.answer_by m k → refuse n ≡ answer_by m gray w h most
   unfolding answer_by
-  refused-by zero some = absurd (some refl)
-  refused-by (suc n) some = refl
-
-  pub refused-is : (n m : ℕ) (r : Answer) → r ≡ refused_by n → n ≡ m → (n ≡ 0 → ⊥) → r ≡ answer_by m gray w h most
-  refused-is n m r er en some = er ∙ refused-by n some ∙ ap (λ (n : ℕ). answer_by n gray w h most) en
+  refused-is n zero k e = cc
+  refused-is n (suc m) k e = cc
 
 -- ---- the lent lists
-pub number_is : (n : ℕ) (r : Answer) → r ≡ refused_by n → number_of r.outcome ≡ n
-unfolding refused_by number_of
-number_is n r e = ap (λ (r : Answer). number_of r.outcome) e
-
-pub number-given : number_of Given ≡ 0
-unfolding number_of
-number-given = refl
-
 module _ (s old : List ℕ) (w h n : ℕ) (some : n ≡ 0 → ⊥) where
-  pub refused-levels : (m : ℕ) → m ≡ n → old ≡ levels_after m s w h old
-  refused-levels m e = rw (e, ne_eqb n 0 some)
+  pub refused-levels : old ≡ levels_after n s w h old
+  refused-levels = rw (ne_eqb n 0 some)
 
-  pub refused-labels : (m : ℕ) → m ≡ n → old ≡ labels_after m s w h old
-  refused-labels m e = rw (e, ne_eqb n 0 some)
+  pub refused-labels : old ≡ labels_after n s w h old
+  refused-labels = rw (ne_eqb n 0 some)
 
-  pub refused-stack : (m : ℕ) → m ≡ n → StackAfter m w h old old
-  refused-stack m e = rw (e, ne_eqb n 0 some)
+  pub refused-stack : StackAfter n w h old old
+  refused-stack = rw (ne_eqb n 0 some)
 
-pub given-past : (n : ℕ) {old new : List Float} → UntouchedPast n old new → UntouchedPast (needed_of Given n) old new
+pub given-past : {A : Type 0} (a : A) (n : ℕ) {old new : List Float} → UntouchedPast n old new
+    → UntouchedPast (needed_of (give a) n) old new
 unfolding needed_of
-given-past n p = p
+given-past a n p = p

@@ -14,7 +14,7 @@ use native.Mathlib.Omega.{arith}
 use lib.Ieee.{lt}
 use Rattle.hull.specs.Points.{floats_of}
 use Rattle.laws.specs.Plane.{plane}
-use Rattle.accept.specs.declared.Fixed.TheVariants.{NoFix}
+use Rattle.std.proofs.Common.{None}
 use Rattle.ring.specs.Trace.{is_fixed, top_of, better_of, first_of, short_trace, attempt_of}
 use Rattle.ring.specs.declared.quads.Trace.{Trace}
 use Rattle.finder.specs.Claims.{FirstFixStands}
@@ -36,7 +36,7 @@ module _ (t u : Trace) (b : Bool) (eb : b ≡ is_fixed t.fix) where
 -- ---- the promotion
 module _ (t : Trace) (b : Bool) (eb : b ≡ is_fixed t.fix) where
   abbrev back : Trace
-  back = record { hull = t.hull; quad = t.quad; scores = t.scores; fix = t.fallback; fallback = NoFix }
+  back = record { hull = t.hull; quad = t.quad; scores = t.scores; fix = t.fallback; fallback = None }
 
   promoted-by : (c : Bool) → b ≡ c → cond c t back ≡ promoted_of t
   unfolding promoted_of

@@ -1,16 +1,15 @@
 -- The ring door's checks of the points of a try: half-good, floats-good, that they are coordinates; even; region-taken, tries-taken.
--- Assumes
--- nothing.
+-- Assumes nothing.
 use mathlib.Core.Path.{◌≡◌, refl, ◌∙◌, subst}
 use mathlib.Core.Bool.{true, false}
 use mathlib.Core.List.{List, [], ◌∷◌, Memᴰ}
-use Prim.Native.Nat.{ℕ, zero, suc, ◌+◌, ◌*◌, ◌^◌, ◌%◌, ◌≤◌, ◌<◌}
+use Prim.Native.Nat.{ℕ, ◌*◌, ◌^◌, ◌%◌, ◌≤◌}
 use native.Mathlib.Omega.{arith}
 use lib.Dec.{lit≤}
 use lib.IntN.{pos}
 use lib.Ieee.{Float, nan, inf, fin, binary32, le, lt, eq, of_bits}
 use lib.Ieee.Exact.{HasValue}
-use lib.ListN.{length, get_or}
+use lib.ListN.{length}
 use borrow.Author.Tests.{lt-ltb, le-leb, eq-eqb}
 use Rattle.hull.proofs.Floats.{length-floats}
 use Rattle.laws.specs.Move.{Box}
@@ -27,7 +26,7 @@ use Rattle.boundary.proofs.Outlines.{boundary-within}
 use Rattle.regions.specs.Regions.{kept_regions, box_in}
 use Rattle.regions.specs.declared.answer.Region.{Region}
 use Rattle.search.specs.Samples.{Photo}
-use Rattle.ring.specs.Checks.{coordinate_of, coordinates_on, check_ring}
+use Rattle.ring.specs.Checks.{coordinate_of, coordinates_of, check_ring}
 use Rattle.region_outline.specs.Region.{need_of, Boxed, region_points}
 use Rattle.finder.specs.Inner.{region_by}
 use Rattle.finder.specs.Claims.{TriesTaken}
@@ -55,20 +54,13 @@ half-good n l = value-good n (half_of n) l (exact binary32 false n 1 (few n l) (
     few : (n : ℕ) → n ≤ 8192 → n ≤ 2 ^ 24
     few n l = omega arith
 
-floats-good : (L : List (ℕ × ℕ)) → ((q : ℕ × ℕ) → Memᴰ q L → (q.0 ≤ 8192) × (q.1 ≤ 8192)) → (i : ℕ) → i < length (floats_of L)
-    → coordinate_of (get_or (floats_of L) i nan) ≡ true
+floats-good : (L : List (ℕ × ℕ)) → ((q : ℕ × ℕ) → Memᴰ q L → (q.0 ≤ 8192) × (q.1 ≤ 8192)) → coordinates_of (floats_of L) ≡ true
 unfolding floats_of numbers_of
-floats-good [] s i l = absurd (omega arith)
-floats-good (q ∷ L) s zero l = half-good q.0 (s q (Memᴰ.head refl)).0
-floats-good (q ∷ L) s (suc zero) l = half-good q.1 (s q (Memᴰ.head refl)).1
-floats-good (q ∷ L) s (suc (suc i)) l = floats-good L (λ r m. s r (Memᴰ.tail m)) i (omega arith)
-
-all-good : (s : List Float) → ((i : ℕ) → i < length s → coordinate_of (get_or s i nan) ≡ true) → (d k : ℕ) → k + d ≤ length s
-    → coordinates_on s d k ≡ true
-unfolding coordinates_on
-all-good s each zero k l = refl
-all-good s each (suc d) k l =
-    both (coordinate_of (get_or s k nan)) (coordinates_on s d (k + 1)) (each k (omega arith)) (all-good s each d (k + 1) (omega arith))
+floats-good [] s = refl
+floats-good (q ∷ L) s =
+    let few = s q (Memᴰ.head refl) in
+    both (coordinate_of (half_of q.0)) _ (half-good q.0 few.0)
+    (both (coordinate_of (half_of q.1)) _ (half-good q.1 few.1) (floats-good L (λ r m. s r (Memᴰ.tail m))))
 
 -- ---- a region's points
 even : (n m : ℕ) → n ≡ 2 * m → n % 2 ≡ 0
@@ -107,7 +99,7 @@ module _ (gray : List ℕ) (w h : ℕ) (t : Photo gray w h) (r : Region) (g : Bo
         le-leb n a (omega (arith, small, room_a)),
         le-leb n b (omega (arith, small, room_b)),
         le-leb n c (omega (arith, small, room_c)),
-        all-good (floats_of points) (floats-good points near) n 0 (omega arith),
+        floats-good points near,
         version,
       )
 

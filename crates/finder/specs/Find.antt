@@ -1,11 +1,11 @@
 -- The finder's entry, as ring.rs has it in `trace` and `detect_ring`: which outlines are tried, which trace stands, and what the entry
 -- answers and leaves. `gray` holds the picture's bytes, w and h are its sides. Definitions only. Assumes nothing.
-use Rattle.std.specs.Prelude.{ℕ, zero, suc, ◌+◌, Bool, cond, ◌&&◌, List, leb, ltb}
+use Rattle.std.specs.Prelude.{ℕ, zero, suc, ◌+◌, Bool, cond, ◌&&◌, List, leb, ltb, None}
 use Rattle.laws.specs.Move.{box_at}
 use Rattle.laws.specs.Check.{or_refuse}
 use Rattle.laws.specs.Fold.{bit}
 use Rattle.laws.specs.Plane.{Plane, plane}
-use Rattle.laws.specs.Said.{Said}
+use Rattle.laws.specs.Said.{Said, refuse, none, give}
 use Rattle.lcr_core.specs.Version.{is_version}
 use Rattle.labels.specs.Cells.{groups_of}
 use Rattle.regions.specs.Kept.{kept_count, kept_label}
@@ -13,14 +13,10 @@ use Rattle.picture.specs.Door.{check_grids}
 use Rattle.boundary.specs.Boundary.{is_member, boundary, outline_of}
 use Rattle.region_outline.specs.Region.{need_of}
 use Rattle.hull.specs.Points.{floats_of}
-use Rattle.accept.specs.declared.Fixed.TheVariants.{NoFix}
 use Rattle.ring.specs.Trace.{is_fixed, first_of, short_trace, attempt_of}
 use Rattle.ring.specs.Checks.{has_room}
-use Rattle.ring.specs.Door.{outcome_said}
 use Rattle.ring.specs.declared.quads.Trace.{Trace}
-use Rattle.ring.specs.declared.door.Outcome.{Outcome}
-use Rattle.ring.specs.declared.door.Outcome.TheVariants.{Given, Refused}
-use Rattle.finder.specs.declared.Answer.{Answer}
+use Rattle.finder.specs.declared.Found.{Found}
 
 -- ---- what is tried
 -- How many outlines are tried: one a kept region, and all ink together where there is more than one region, kept or not.
@@ -50,7 +46,7 @@ best_trace f (suc (suc n)) = first_of (best_trace f (suc n)) (f (suc n))
 unfoldable pub promoted_of : Trace → Trace
 promoted_of t =
     cond (is_fixed t.fix) t
-    (record { hull = t.hull; quad = t.quad; scores = t.scores; fix = t.fallback; fallback = NoFix })
+    (record { hull = t.hull; quad = t.quad; scores = t.scores; fix = t.fallback; fallback = None })
 
 -- The trace of a picture.
 unfoldable pub trace_of : List ℕ → ℕ → ℕ → ℕ → Trace
@@ -74,25 +70,13 @@ check_find w h bytes levels labels stack a b c d most =
     (or_refuse (is_version most) 8 0))
 
 -- ---- the answer, and the lent lists
--- A refusal by its number: no regions, and the trace of nothing.
-unfoldable pub refused_by : ℕ → Answer
-refused_by n = record { outcome = Refused n; regions = 0; trace = short_trace 0 }
-
--- The answer by the number of the first check that fails, 0 where none does.
-unfoldable pub answer_by : ℕ → List ℕ → ℕ → ℕ → ℕ → Answer
-answer_by zero gray w h most = record { outcome = Given; regions = groups_of (plane w gray) w h; trace = trace_of gray w h most }
-answer_by (suc n) gray w h most = refused_by (suc n)
-
--- What an answer says: how many regions there are, and the trace.
-abbrev pub find_said : Answer → Said (ℕ × Trace)
-find_said a = outcome_said a.outcome (a.regions, a.trace)
-
--- The number of an outcome, 0 where it is no refusal: the picture door's definitions of its lists after a call go by it.
-unfoldable pub number_of : Outcome → ℕ
-number_of Given = 0
-number_of (Refused n) = n
+-- The answer by the number of the first check that fails, 0 where none does: how many regions there are, and the trace.
+unfoldable pub answer_by : ℕ → List ℕ → ℕ → ℕ → ℕ → Said Found
+answer_by zero gray w h most = give (record { regions = groups_of (plane w gray) w h; trace = trace_of gray w h most })
+answer_by (suc n) gray w h most = refuse (suc n)
 
 -- How many places of a list of numbers a call may write, of n: none where it refuses.
-unfoldable pub needed_of : Outcome → ℕ → ℕ
-needed_of Given n = n
-needed_of (Refused k) n = 0
+unfoldable pub needed_of : {A : Type 0} → Said A → ℕ → ℕ
+needed_of (give a) n = n
+needed_of none n = 0
+needed_of (refuse k) n = 0

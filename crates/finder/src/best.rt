@@ -2,7 +2,6 @@
 ghost use Rattle.std.specs.Prelude.{◌≡◌};
 ghost use Rattle.finder.specs.Find.{promoted_of};
 
-use accept::Fixed;
 use ring::quads::{Trace, is_fixed};
 
 // Without a fix the fallback is promoted to it.
@@ -21,6 +20,6 @@ pub fn promoted(t: Trace) -> Trace
         quad: quad,
         scores: scores,
         fix: fallback,
-        fallback: Fixed::NoFix,
+        fallback: None,
     }
 }

@@ -8,14 +8,15 @@
 #![tactic(auto)]
 
 ghost use Rattle.std.specs.Prelude.{◌≡◌, length};
+ghost use Rattle.refusal.specs.Numbers.{number_in, said};
 ghost use Rattle.laws.specs.Lent.{UntouchedPast};
 ghost use Rattle.picture.specs.Door.{levels_after, labels_after, StackAfter};
 ghost use Rattle.region_outline.specs.Region.{need_of};
-ghost use Rattle.finder.specs.Find.{check_find, refused_by, answer_by, number_of, needed_of};
+ghost use Rattle.finder.specs.Find.{check_find, answer_by, needed_of};
 
 use crate::prepare::prepare;
 use crate::refusals::Rooms;
-use ring::door::Outcome;
+use refusal::Refusal;
 use ring::quads::Trace;
 
 pub mod best;
@@ -25,27 +26,13 @@ pub mod prepare;
 pub mod refusals;
 pub mod tries;
 
-// What the finder answers; on a refusal there are no regions and the trace is that of nothing.
-#[derive(Drop)]
-pub struct Answer {
-    // whether a trace is given, or the number of the first check that fails
-    pub outcome: Outcome,
+// What the finder finds in a picture.
+#[derive(Clone, Copy)]
+pub struct Found {
     // how many regions the picture has, kept or not
     pub regions: usize,
     // the trace that stands; its fix is the ring
     pub trace: Trace,
-}
-
-// The answer of a refusal.
-fn refusal(n: u32) -> Answer
-    ensures { result ≡ refused_by n }
-{
-    let t = ring::attempt::short_trace(0);
-    Answer {
-        outcome: Outcome::Refused(n),
-        regions: 0,
-        trace: t,
-    }
 }
 
 // The finder's entry: the trace of a picture of width × height bytes, up to a greatest version.
@@ -65,24 +52,24 @@ pub fn find(
     straight: &mut [f32],
     cand: &mut [f32],
     buf: &mut [f32],
-) -> Answer
-    ensures answer { result ≡ answer_by (check_find w h (length gray.now) (length levels.old)
+) -> Result<Found, Refusal>
+    ensures answer { said result ≡ answer_by (check_find w h (length gray.now) (length levels.old)
         (length labels.old) (length stack.old)
         (length points.old) (length straight.old)
         (length cand.old) (length buf.old) most)
         gray.now w h most }
     ensures levels { levels.new
-        ≡ levels_after (number_of result.outcome) gray.now w h levels.old }
+        ≡ levels_after (number_in result) gray.now w h levels.old }
     ensures labels { labels.new
-        ≡ labels_after (number_of result.outcome) gray.now w h labels.old }
-    ensures stack { StackAfter (number_of result.outcome) w h stack.old stack.new }
-    ensures points { UntouchedPast (needed_of result.outcome (need_of w h))
+        ≡ labels_after (number_in result) gray.now w h labels.old }
+    ensures stack { StackAfter (number_in result) w h stack.old stack.new }
+    ensures points { UntouchedPast (needed_of (said result) (need_of w h))
         points.old points.new }
-    ensures straight { UntouchedPast (needed_of result.outcome (need_of w h))
+    ensures straight { UntouchedPast (needed_of (said result) (need_of w h))
         straight.old straight.new }
-    ensures cand { UntouchedPast (needed_of result.outcome (need_of w h))
+    ensures cand { UntouchedPast (needed_of (said result) (need_of w h))
         cand.old cand.new }
-    ensures buf { UntouchedPast (needed_of result.outcome (need_of w h))
+    ensures buf { UntouchedPast (needed_of (said result) (need_of w h))
         buf.old buf.new }
 {
     let l = Rooms {
@@ -91,18 +78,12 @@ pub fn find(
         cand: cand.len(),
         buf: buf.len(),
     };
-    let p = prepare(gray, w, h, most, levels, labels, stack, l);
-    let n = p.refused;
-    if n != 0 {
-        return refusal(n);
-    }
-    let k = p.regions;
+    let k = prepare(gray, w, h, most, levels, labels, stack, l)?;
     let t = tries::trace(
         gray, w, h, levels, labels, k, most as u8, points, straight, cand, buf,
     );
-    Answer {
-        outcome: Outcome::Given,
+    Ok(Found {
         regions: k.all,
         trace: t,
-    }
+    })
 }

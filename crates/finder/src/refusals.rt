@@ -1,7 +1,9 @@
-// The finder's checks, in order: 1, 2, 3, 8. 0 is none of them.
+// The finder's checks, in order: 1, 2, 3, 8.
 ghost use Rattle.std.specs.Prelude.{◌≡◌};
+ghost use Rattle.refusal.specs.Numbers.{number_in};
 ghost use Rattle.finder.specs.Find.{has_rooms, check_find};
 
+use refusal::Refusal;
 use ring::refusals::is_version;
 
 // How many numbers the lent lists of numbers have.
@@ -17,19 +19,10 @@ pub struct Rooms {
 fn has_rooms(n: usize, a: usize, b: usize, c: usize, d: usize) -> bool
     ensures { result ≡ has_rooms n a b c d }
 {
-    if a < n {
-        return false;
-    }
-    if b < n {
-        return false;
-    }
-    if c < n {
-        return false;
-    }
-    n <= d
+    n <= a && n <= b && n <= c && n <= d
 }
 
-// The number of the first check that fails; levels, labels and stack are the lengths of these lists.
+// The first check that fails; levels, labels and stack are the lengths of these lists.
 pub(crate) fn check(
     w: usize,
     h: usize,
@@ -39,19 +32,16 @@ pub(crate) fn check(
     stack: usize,
     l: Rooms,
     most: u32,
-) -> u32
-    ensures { result ≡ check_find w h bytes levels labels stack l.points l.straight
+) -> Result<(), Refusal>
+    ensures { number_in result ≡ check_find w h bytes levels labels stack l.points l.straight
         l.cand l.buf most }
 {
-    let n = picture::check(w, h, bytes, levels, labels, stack);
-    if n != 0 {
-        return n;
-    }
+    picture::check(w, h, bytes, levels, labels, stack)?;
     if !has_rooms(4 * (w + h), l.points, l.straight, l.cand, l.buf) {
-        return 3;
+        return Err(Refusal::Lent);
     }
     if !is_version(most) {
-        return 8;
+        return Err(Refusal::Version);
     }
-    0
+    Ok(())
 }

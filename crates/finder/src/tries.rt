@@ -116,12 +116,10 @@ fn try_all(
 {
     let n = tries_of(k);
     let mut best = ring::attempt::short_trace(0);
-    let mut i: usize = 0;
-    while i < n {
+    for i in 0..n {
         best = try_next(
             gray, w, h, levels, labels, k, most, i, best, points, straight, cand, buf,
         );
-        i += 1;
     }
     best
 }

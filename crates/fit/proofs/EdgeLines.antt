@@ -11,12 +11,12 @@ use lib.ListN.{length, take}
 use lib.Dec.{ltb, eqb}
 use lib.Ieee.{Float, lt}
 use borrow.Author.Tests.{lt-ltb, le-ltb, eq-eqb, ne_eqb}
+use Rattle.std.specs.Prelude.{Option}
 use Rattle.ieee.specs.Ops.{max}
 use Rattle.ieee.specs.Constants.{0·02, 0·35, 2f}
 use Rattle.hull.specs.Points.{many}
 use Rattle.hull.specs.declared.points.Point.{Point}
 use Rattle.hull.specs.declared.points.Quad.{Quad}
-use Rattle.hull.specs.declared.points.Corners.{Corners}
 use Rattle.fit.specs.F32.{◌⊗◌, whole_float, 1·5, 3f, 16f}
 use Rattle.fit.specs.Select.{KeptIn}
 use Rattle.fit.specs.Line.{refit_of}
@@ -104,7 +104,7 @@ module _ (s : List Float) (e : Edge) (best : Trial) (is : best ≡ trials_of s e
 
 -- ---- four edges
 module _ (s : List Float) (q : Quad) (ab bc cd da : Line) where
-  pub refined-by : (f : Corners) (r : Quad) → ab ≡ hull_line s q.a q.b → bc ≡ after_line ab (hull_line s q.b q.c)
+  pub refined-by : (f : Option Quad) (r : Quad) → ab ≡ hull_line s q.a q.b → bc ≡ after_line ab (hull_line s q.b q.c)
       → cd ≡ after_line bc (hull_line s q.c q.d) → da ≡ after_line cd (hull_line s q.d q.a)
       → f ≡ refined_at q ab bc cd da → r ≡ or_quad f q → r ≡ refined_of s q
   unfolding refined_of
@@ -113,10 +113,10 @@ module _ (s : List Float) (q : Quad) (ab bc cd da : Line) where
       let cd₀ = hull_line s q.c q.d in
       let da₀ = hull_line s q.d q.a in
       er
-      ∙ ap (λ (f : Corners). or_quad f q) (ef ∙ refined-after q ab bc cd da bc₀ cd₀ da₀ eb ec ed)
+      ∙ ap (λ (f : Option Quad). or_quad f q) (ef ∙ refined-after q ab bc cd da bc₀ cd₀ da₀ eb ec ed)
       ∙ ap (λ (ab : Line). or_quad (refined_at q ab bc₀ cd₀ da₀) q) ea
 
-  pub edges_by : (r : Corners) → ab ≡ edge_line s q.a q.b → bc ≡ after_line ab (edge_line s q.b q.c)
+  pub edges_by : (r : Option Quad) → ab ≡ edge_line s q.a q.b → bc ≡ after_line ab (edge_line s q.b q.c)
       → cd ≡ after_line bc (edge_line s q.c q.d) → da ≡ after_line cd (edge_line s q.d q.a)
       → r ≡ edge_at q ab bc cd da → r ≡ edge_quad s q
   unfolding edge_quad

@@ -10,10 +10,9 @@ use lib.ListN.{length, take}
 use lib.Dec.{ltb}
 use lib.Ieee.{Float}
 use borrow.Author.Tests.{lt-ltb, le-ltb}
+use Rattle.std.specs.Prelude.{Option, None}
 use Rattle.hull.specs.declared.points.Point.{Point}
 use Rattle.hull.specs.declared.points.Quad.{Quad}
-use Rattle.hull.specs.declared.points.Corners.{Corners}
-use Rattle.hull.specs.declared.points.Corners.TheVariants.{NoQuad}
 use Rattle.fit.specs.Select.{KeptIn}
 use Rattle.fit.specs.Line.{tls_of, middle_points, line_pass, cross_of}
 use Rattle.fit.specs.Corner.{near_corner, corners_of, after_line, refined_at}
@@ -51,16 +50,16 @@ unfolding cross_of
 cross-none (Along x y u v) = refl
 cross-none NoLine = refl
 
-none_1 : (a b c d : Crossing) → a ≡ NoCrossing → corners_of a b c d ≡ NoQuad
+none_1 : (a b c d : Crossing) → a ≡ NoCrossing → corners_of a b c d ≡ None
 unfolding corners_of
 none_1 a b c d h = ap (λ (a : Crossing). corners_of a b c d) h
 
-none_2 : (a b c d : Crossing) → b ≡ NoCrossing → corners_of a b c d ≡ NoQuad
+none_2 : (a b c d : Crossing) → b ≡ NoCrossing → corners_of a b c d ≡ None
 unfolding corners_of
 none_2 (At x y) b c d h = ap (λ (b : Crossing). corners_of (At x y) b c d) h
 none_2 NoCrossing b c d h = refl
 
-none-3 : (a b c d : Crossing) → c ≡ NoCrossing → corners_of a b c d ≡ NoQuad
+none-3 : (a b c d : Crossing) → c ≡ NoCrossing → corners_of a b c d ≡ None
 unfolding corners_of
 none-3 (At x y) (At u v) c d h = ap (λ (c : Crossing). corners_of (At x y) (At u v) c d) h
 none-3 (At x y) NoCrossing c d h = refl
@@ -68,24 +67,24 @@ none-3 NoCrossing b c d h = refl
 
 -- the lines one after the other, each looked for only where the one before it is some
 module _ (q : Quad) (keep : Crossing → Point → Crossing) (lost : (p : Point) → keep NoCrossing p ≡ NoCrossing) where
-  abbrev crossings : Line → Line → Line → Line → Corners
+  abbrev crossings : Line → Line → Line → Line → Option Quad
   crossings ab bc cd da =
       corners_of (keep (cross_of da ab) q.a) (keep (cross_of ab bc) q.b) (keep (cross_of bc cd) q.c) (keep (cross_of cd da) q.d)
 
   lose : (l m : Line) (p : Point) → m ≡ NoLine → keep (cross_of l m) p ≡ NoCrossing
   lose l m p h = ap (λ (m : Line). keep (cross_of l m) p) h ∙ ap (λ (c : Crossing). keep c p) (cross-none l) ∙ lost p
 
-  first-none : (bc cd da : Line) → crossings NoLine bc cd da ≡ NoQuad
+  first-none : (bc cd da : Line) → crossings NoLine bc cd da ≡ None
   first-none bc cd da =
       none_1 (keep (cross_of da NoLine) q.a) (keep (cross_of NoLine bc) q.b) (keep (cross_of bc cd) q.c) (keep (cross_of cd da) q.d)
       (lose da NoLine q.a refl)
 
-  second_none : (ab cd da : Line) → crossings ab NoLine cd da ≡ NoQuad
+  second_none : (ab cd da : Line) → crossings ab NoLine cd da ≡ None
   second_none ab cd da =
       none_2 (keep (cross_of da ab) q.a) (keep (cross_of ab NoLine) q.b) (keep (cross_of NoLine cd) q.c) (keep (cross_of cd da) q.d)
       (lose ab NoLine q.b refl)
 
-  third-none : (ab bc da : Line) → crossings ab bc NoLine da ≡ NoQuad
+  third-none : (ab bc da : Line) → crossings ab bc NoLine da ≡ None
   third-none ab bc da =
       none-3 (keep (cross_of da ab) q.a) (keep (cross_of ab bc) q.b) (keep (cross_of bc NoLine) q.c) (keep (cross_of NoLine da) q.d)
       (lose bc NoLine q.c refl)
@@ -109,7 +108,7 @@ after_line_lem before line r h q = q ∙ sym (ap (λ (l : Line). after_line l li
 -- bc, cd and da as the code finds them
 module _ (q : Quad) (ab bc cd da bc₀ cd₀ da₀ : Line) (eb : bc ≡ after_line ab bc₀) (ec : cd ≡ after_line bc cd₀)
     (ed : da ≡ after_line cd da₀) where
-  chain : (at : Line → Line → Line → Line → Corners)
+  chain : (at : Line → Line → Line → Line → Option Quad)
       → at ab bc cd da ≡ at ab (after_line ab bc₀) (after_line (after_line ab bc₀) cd₀) (after_line (after_line (after_line ab bc₀) cd₀) da₀)
   chain at =
       ap (at ab bc cd) ed

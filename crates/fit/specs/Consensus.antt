@@ -1,6 +1,6 @@
 -- A quad from four edges, each the line that most points agree with, by rules 21 to 25 and ring.rs in
 -- `edge_quad`. Definitions only. Assumes nothing.
-use Rattle.std.specs.Prelude.{ℕ, zero, suc, ◌+◌, ◌*◌, ◌/◌, ◌%◌, Bool, cond, ◌&&◌, List, eqb, ltb, Float}
+use Rattle.std.specs.Prelude.{ℕ, zero, suc, ◌+◌, ◌*◌, ◌/◌, ◌%◌, Bool, cond, ◌&&◌, List, eqb, ltb, Float, Option}
 use Rattle.std.specs.Float.{binary32}
 use Rattle.std.specs.Float.Ieee.{lt, le, neg}
 use Rattle.ieee.specs.Root.{sqrt}
@@ -8,7 +8,6 @@ use Rattle.ieee.specs.Constants.{0f, 0·05, 0·15, 0·35, 1·05}
 use Rattle.hull.specs.Points.{many}
 use Rattle.hull.specs.declared.points.Point.{Point}
 use Rattle.hull.specs.declared.points.Quad.{Quad}
-use Rattle.hull.specs.declared.points.Corners.{Corners}
 use Rattle.fit.specs.F32.{◌⊕◌, ◌⊖◌, ◌⊗◌, ◌⊘◌, whole_float, 0·25, 1·5, 3f, 16f, x_of, y_of}
 use Rattle.fit.specs.Select.{points_by, passing, along_edge, within, off_of}
 use Rattle.fit.specs.Line.{refit_of, cross_of}
@@ -108,7 +107,7 @@ unfoldable pub limit_of : Quad → Float
 limit_of q = let span = sqrt binary32 (d2_of q.a.x q.a.y q.c) in 0·25 ⊗ span ⊗ (0·25 ⊗ span)
 
 -- Corners where the lines of neighbouring edges cross, each within the limit of q's.
-abbrev pub edge_at : Quad → Line → Line → Line → Line → Corners
+abbrev pub edge_at : Quad → Line → Line → Line → Line → Option Quad
 edge_at q ab bc cd da =
     corners_of
     (keep_corner (cross_of da ab) q.a (limit_of q))
@@ -117,6 +116,6 @@ edge_at q ab bc cd da =
     (keep_corner (cross_of cd da) q.d (limit_of q))
 
 -- Four corners from four edges, or none.
-unfoldable pub edge_quad : List Float → Quad → Corners
+unfoldable pub edge_quad : List Float → Quad → Option Quad
 edge_quad s q =
     edge_at q (edge_line s q.a q.b) (edge_line s q.b q.c) (edge_line s q.c q.d) (edge_line s q.d q.a)

@@ -1,6 +1,6 @@
 -- A quad refined by lines along its edges, and when two quads agree, by rules 21 to 25 and ring.rs in
 -- `refine_quad` and `same_quad`. Definitions only. Assumes nothing.
-use Rattle.std.specs.Prelude.{Bool, cond, ◌&&◌, List, Float}
+use Rattle.std.specs.Prelude.{Bool, cond, ◌&&◌, List, Float, Option, Some, None, unwrap_or}
 use Rattle.std.specs.Float.{binary32}
 use Rattle.std.specs.Float.Ieee.{lt, le}
 use Rattle.ieee.specs.Root.{sqrt}
@@ -8,8 +8,6 @@ use Rattle.ieee.specs.Ops.{abs, max}
 use Rattle.ieee.specs.Constants.{0·02, 2f}
 use Rattle.hull.specs.declared.points.Point.{Point}
 use Rattle.hull.specs.declared.points.Quad.{Quad}
-use Rattle.hull.specs.declared.points.Corners.{Corners}
-use Rattle.hull.specs.declared.points.Corners.TheVariants.{Found, NoQuad}
 use Rattle.fit.specs.F32.{◌⊕◌, ◌⊖◌, ◌⊗◌, ◌⊘◌, 1·5, 16f, 64f}
 use Rattle.fit.specs.Line.{point_of, refit_of, cross_of}
 use Rattle.fit.specs.declared.line.Edge.{Edge}
@@ -43,18 +41,17 @@ near_corner (At x y) p = cond (le (d2_of x y p) 64f) (At x y) NoCrossing
 near_corner NoCrossing p = NoCrossing
 
 -- Four crossings as a quad, or none where one is none.
-unfoldable pub corners_of : Crossing → Crossing → Crossing → Crossing → Corners
+unfoldable pub corners_of : Crossing → Crossing → Crossing → Crossing → Option Quad
 corners_of (At ax ay) (At bx by) (At cx cy) (At dx dy) =
-    Found record { a = point_of ax ay; b = point_of bx by; c = point_of cx cy; d = point_of dx dy }
-corners_of (At ax ay) (At bx by) (At cx cy) NoCrossing = NoQuad
-corners_of (At ax ay) (At bx by) NoCrossing d = NoQuad
-corners_of (At ax ay) NoCrossing c d = NoQuad
-corners_of NoCrossing b c d = NoQuad
+    Some record { a = point_of ax ay; b = point_of bx by; c = point_of cx cy; d = point_of dx dy }
+corners_of (At ax ay) (At bx by) (At cx cy) NoCrossing = None
+corners_of (At ax ay) (At bx by) NoCrossing d = None
+corners_of (At ax ay) NoCrossing c d = None
+corners_of NoCrossing b c d = None
 
 -- A quad, or q where there is none.
-unfoldable pub or_quad : Corners → Quad → Quad
-or_quad (Found f) q = f
-or_quad NoQuad q = q
+abbrev pub or_quad : Option Quad → Quad → Quad
+or_quad c q = unwrap_or c q
 
 -- The line of an edge, or none where that of the edge before it is none.
 abbrev pub after_line : Line → Line → Line
@@ -62,7 +59,7 @@ after_line (Along x y u v) line = line
 after_line NoLine line = NoLine
 
 -- Corners where the lines of neighbouring edges cross, near q's.
-abbrev pub refined_at : Quad → Line → Line → Line → Line → Corners
+abbrev pub refined_at : Quad → Line → Line → Line → Line → Option Quad
 refined_at q ab bc cd da =
     corners_of
     (near_corner (cross_of da ab) q.a)

@@ -11,6 +11,7 @@ use hull::points::Point;
 
 // The best trial line so far: how many points agree with it, where 0 is no line, a point of it in
 // pixels, and its unit direction.
+// Kept: what may not change, since `trials_of` begins with a line of count 0 and `better_trial` compares with it.
 #[derive(Drop)]
 pub struct Trial {
     pub count: usize,
@@ -31,6 +32,7 @@ fn search_near(e: Edge, x: f32, y: f32) -> bool
 }
 
 // Keeps the points that may belong to an edge, from the beginning of cand on.
+// Kept: beside `middle::select`, which says why.
 fn search(s: &[f32], e: Edge, cand: &mut [f32]) -> usize
     requires s_in_bounds { length s.now ≤ length cand.old }
     requires s_len_bound { length s.now ≤ 32768 }
@@ -39,12 +41,10 @@ fn search(s: &[f32], e: Edge, cand: &mut [f32]) -> usize
 {
     let n = s.len() / 2;
     let mut m = 0usize;
-    let mut k = 0usize;
-    while k < n {
+    for k in 0..n {
         let x = s[2 * k];
         let y = s[2 * k + 1];
         m = crate::middle::put(cand, m, search_near(e, x, y), x, y);
-        k += 1;
     }
     m
 }
@@ -68,11 +68,9 @@ fn agree(s: &[f32], px: f32, py: f32, fx: f32, fy: f32) -> usize
 {
     let n = s.len() / 2;
     let mut m = 0u32;
-    let mut k = 0usize;
-    while k < n {
+    for k in 0..n {
         let on = crate::middle::on_line(px, py, fx, fy, 1.5, s[2 * k], s[2 * k + 1]);
         m = one_if(on, m);
-        k += 1;
     }
     m as usize
 }
@@ -170,12 +168,10 @@ fn trials(s: &[f32], len: f32) -> Trial
     };
     let mut i = pick(13, n);
     let mut j = pick(n / 2, n);
-    let mut k = 0usize;
-    while k < 96 {
+    for k in 0..96usize {
         best = try_pair(s, len, cut, i, j, best);
         i = further(i, first, n);
         j = further(j, second, n);
-        k += 1;
     }
     best
 }

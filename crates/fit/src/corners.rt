@@ -2,11 +2,11 @@
 // `same_quad` of the Rust's ring.rs. Points are alternating x, y in one list.
 ghost use Rattle.std.specs.Prelude.{◌≡◌, ◌≤◌, length};
 ghost use Rattle.laws.specs.Lent.{UntouchedPast};
-ghost use Rattle.fit.specs.Corner.{edge_from, d2_of, hull_line, near_corner, corners_of, or_quad};
+ghost use Rattle.fit.specs.Corner.{edge_from, d2_of, hull_line, near_corner, corners_of};
 ghost use Rattle.fit.specs.Corner.{after_line, refined_at, refined_of, same_corner, same_of};
 
 use crate::line::{Crossing, Edge, Line};
-use hull::points::{Corners, Point, Quad};
+use hull::points::{Point, Quad};
 
 // The edge from a to b.
 pub fn edge_of(a: Point, b: Point) -> Edge
@@ -48,6 +48,7 @@ fn hull_line(s: &[f32], a: Point, b: Point, buf: &mut [f32]) -> Line
 }
 
 // The same, or none without a look at the points where the line of the edge before is none.
+// Kept: beside `edges::next_edge_line`, which lends one list more.
 fn next_hull_line(s: &[f32], before: Line, a: Point, b: Point, buf: &mut [f32]) -> Line
     requires s_in_bounds { length s.now ≤ length buf.old }
     requires s_len_bound { length s.now ≤ 32768 }
@@ -62,6 +63,7 @@ fn next_hull_line(s: &[f32], before: Line, a: Point, b: Point, buf: &mut [f32]) 
 }
 
 // A crossing whose squared distance from p is at most 64.
+// Kept: beside `edges::keep_corner`, which lets a NaN distance pass.
 fn near_corner(c: Crossing, p: Point) -> Crossing
     ensures { result ≡ near_corner c p }
 {
@@ -75,22 +77,22 @@ fn near_corner(c: Crossing, p: Point) -> Crossing
 }
 
 // The quad of four crossings.
-pub(crate) fn corners_of(a: Crossing, b: Crossing, c: Crossing, d: Crossing) -> Corners
+pub(crate) fn corners_of(a: Crossing, b: Crossing, c: Crossing, d: Crossing) -> Option<Quad>
     ensures { result ≡ corners_of a b c d }
 {
     let Crossing::At(ax, ay) = a else {
-        return Corners::NoQuad;
+        return None;
     };
     let Crossing::At(bx, by) = b else {
-        return Corners::NoQuad;
+        return None;
     };
     let Crossing::At(cx, cy) = c else {
-        return Corners::NoQuad;
+        return None;
     };
     let Crossing::At(dx, dy) = d else {
-        return Corners::NoQuad;
+        return None;
     };
-    Corners::Found(Quad {
+    Some(Quad {
         a: Point { x: ax, y: ay },
         b: Point { x: bx, y: by },
         c: Point { x: cx, y: cy },
@@ -98,18 +100,8 @@ pub(crate) fn corners_of(a: Crossing, b: Crossing, c: Crossing, d: Crossing) -> 
     })
 }
 
-// A quad, or q where there is none.
-fn or_quad(c: Corners, q: Quad) -> Quad
-    ensures { result ≡ or_quad c q }
-{
-    let Corners::Found(f) = c else {
-        return q;
-    };
-    f
-}
-
 // Corners where the lines of neighbouring edges cross.
-fn refined_at(q: Quad, ab: Line, bc: Line, cd: Line, da: Line) -> Corners
+fn refined_at(q: Quad, ab: Line, bc: Line, cd: Line, da: Line) -> Option<Quad>
     ensures { result ≡ refined_at q ab bc cd da }
 {
     let a = near_corner(crate::line::intersect(da, ab), q.a);
@@ -131,7 +123,7 @@ pub fn refine_quad(s: &[f32], q: Quad, buf: &mut [f32]) -> Quad
     let bc = next_hull_line(s, ab, q.b, q.c, buf);
     let cd = next_hull_line(s, bc, q.c, q.d, buf);
     let da = next_hull_line(s, cd, q.d, q.a, buf);
-    or_quad(refined_at(q, ab, bc, cd, da), q)
+    refined_at(q, ab, bc, cd, da).unwrap_or(q)
 }
 
 // Whether two corners agree within tol in x and in y.

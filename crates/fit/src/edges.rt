@@ -6,7 +6,7 @@ ghost use Rattle.fit.specs.Corner.{after_line};
 ghost use Rattle.fit.specs.Consensus.{edge_line, keep_corner, limit_of, edge_at, edge_quad};
 
 use crate::line::{Crossing, Line};
-use hull::points::{Corners, Point, Quad};
+use hull::points::{Point, Quad};
 
 // The line of the edge from a to b, or none without a look at the points where the line of the edge
 // before is none.
@@ -55,7 +55,7 @@ fn limit_of(q: Quad) -> f32
 }
 
 // Corners where the lines of neighbouring edges cross.
-fn edges_at(q: Quad, ab: Line, bc: Line, cd: Line, da: Line) -> Corners
+fn edges_at(q: Quad, ab: Line, bc: Line, cd: Line, da: Line) -> Option<Quad>
     ensures { result ≡ edge_at q ab bc cd da }
 {
     let limit = limit_of(q);
@@ -67,7 +67,7 @@ fn edges_at(q: Quad, ab: Line, bc: Line, cd: Line, da: Line) -> Corners
 }
 
 // Four corners from four edges fitted by consensus, or none.
-pub fn edge_quad(s: &[f32], q: Quad, cand: &mut [f32], buf: &mut [f32]) -> Corners
+pub fn edge_quad(s: &[f32], q: Quad, cand: &mut [f32], buf: &mut [f32]) -> Option<Quad>
     requires s_in_bounds { length s.now ≤ length cand.old }
     requires s_in_bounds_2 { length s.now ≤ length buf.old }
     requires s_len_bound { length s.now ≤ 32768 }

@@ -17,6 +17,7 @@ pub struct Edge {
 }
 
 // A line fit: a point of the line in pixels and a unit direction, x y u v; or none.
+// Kept: a rule of the project, that a line fit is an enum of its own (docs/DECISIONS.md).
 #[derive(Clone, Copy)]
 pub enum Line {
     Along(f32, f32, f32, f32),
@@ -24,6 +25,7 @@ pub enum Line {
 }
 
 // Where two lines cross, in pixels; or none where they are near parallel.
+// Kept: a rule of the project, that a crossing is an enum of its own (docs/DECISIONS.md).
 #[derive(Drop)]
 pub enum Crossing {
     At(f32, f32),
@@ -50,13 +52,11 @@ fn sums(s: &[f32]) -> Point
         };
     }
     let mut t = Point { x: s[0], y: s[1] };
-    let mut k = 1usize;
-    while k < n {
+    for k in 1..n {
         t = Point {
             x: t.x + s[2 * k],
             y: t.y + s[2 * k + 1],
         };
-        k += 1;
     }
     t
 }
@@ -82,10 +82,8 @@ fn scatter_about(s: &[f32], m: Point) -> Scatter
         yy: 0.0,
         xy: 0.0,
     };
-    let mut k = 0usize;
-    while k < n {
+    for k in 0..n {
         t = spread(t, s[2 * k] - m.x, s[2 * k + 1] - m.y);
-        k += 1;
     }
     t
 }

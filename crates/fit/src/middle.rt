@@ -64,6 +64,7 @@ fn near_line(e: Edge, ox: f32, oy: f32, fx: f32, fy: f32, tol: f32, x: f32, y: f
 }
 
 // Keeps the points in the middle of an edge within tol of a line, from the beginning of buf on.
+// Kept: beside `consensus::search`; one loop of a closure needs a contract for every test that the closure meets, longer than both.
 fn select(
     s: &[f32],
     e: Edge,
@@ -81,12 +82,10 @@ fn select(
 {
     let n = s.len() / 2;
     let mut m = 0usize;
-    let mut k = 0usize;
-    while k < n {
+    for k in 0..n {
         let x = s[2 * k];
         let y = s[2 * k + 1];
         m = put(buf, m, near_line(e, ox, oy, fx, fy, tol, x, y), x, y);
-        k += 1;
     }
     m
 }

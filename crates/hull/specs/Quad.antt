@@ -1,6 +1,6 @@
 -- The quad of a hull, by rules 18 to 20: the farthest pair and the farthest point on either side of it,
 -- clockwise, with f32 tests, on any input. Definitions only. Assumes nothing.
-use Rattle.std.specs.Prelude.{not, List, [], ◌∷◌, map, ℕ, length, get_or, Float}
+use Rattle.std.specs.Prelude.{not, List, [], ◌∷◌, map, ℕ, length, get_or, Float, Option, Some, None}
 use Rattle.std.specs.Float.{binary32}
 use Rattle.std.specs.Float.Ieee.{of_bits, add, sub, mul, lt, le}
 use Rattle.ieee.specs.Constants.{0f}
@@ -8,8 +8,7 @@ use Rattle.laws.specs.Said.{Said, none, give}
 use Rattle.whole.specs.Walk.{Ops, quad_with}
 use Rattle.hull.specs.Points.{many, x_at, y_at, points_at, floats_of}
 use Rattle.hull.specs.Hull.{cross_at, d2_at}
-use Rattle.hull.specs.declared.points.Corners.{Corners}
-use Rattle.hull.specs.declared.points.Corners.TheVariants.{Found, NoQuad}
+use Rattle.hull.specs.declared.points.Quad.{Quad}
 
 -- The number -1 as an f32, below every squared distance.
 abbrev pub minus_one : Float
@@ -39,9 +38,9 @@ unfoldable pub quad_points : List (ℕ × ℕ) → List (ℕ × ℕ)
 quad_points L = map (λ i. get_or L i (0, 0)) (quad_of (floats_of L) (length L))
 
 -- The numbers of an answer: x and y of its four corners, or nothing.
-unfoldable pub values_of : Corners → List Float
-values_of (Found q) = q.a.x ∷ q.a.y ∷ q.b.x ∷ q.b.y ∷ q.c.x ∷ q.c.y ∷ q.d.x ∷ q.d.y ∷ []
-values_of NoQuad = []
+unfoldable pub values_of : Option Quad → List Float
+values_of (Some q) = q.a.x ∷ q.a.y ∷ q.b.x ∷ q.b.y ∷ q.c.x ∷ q.c.y ∷ q.d.x ∷ q.d.y ∷ []
+values_of None = []
 
 -- What a quad says, by the numbers of its corners: these, or none.
 abbrev pub quad_said : List Float → Said (List Float)

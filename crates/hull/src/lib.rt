@@ -3,42 +3,37 @@
 #![tactic(auto)]
 
 ghost use Rattle.std.specs.Prelude.{◌≡◌, length};
+ghost use Rattle.refusal.specs.Numbers.{said};
 ghost use Rattle.hull.specs.Door.{hulled, vertices_after};
 ghost use Rattle.hull.specs.Quad.{quad_floats, values_of};
 
-use crate::points::Corners;
+use crate::points::Quad;
+use refusal::Refusal;
 
 pub mod claims;
 pub mod points;
 mod sides;
 pub mod walk;
 
-// How many vertices the lent list holds, or the number of a refusal.
-#[derive(Drop)]
-pub enum Hulled {
-    Vertices(usize),
-    Refused(u32),
-}
-
 // Stores the vertices of the hull in out and tells how many there are; the places past them stay as
-// they are. 3 where out has fewer numbers than p, and nothing is touched.
-pub fn convex_hull(p: &[f32], out: &mut [f32]) -> Hulled
-    ensures answer { result ≡ hulled p.now (length out.old) }
-    ensures out { out.new ≡ vertices_after result p.now out.old }
+// they are. Lent where out has fewer numbers than p, and nothing is touched.
+pub fn convex_hull(p: &[f32], out: &mut [f32]) -> Result<usize, Refusal>
+    ensures answer { said result ≡ hulled p.now (length out.old) }
+    ensures out { out.new ≡ vertices_after (said result) p.now out.old }
 {
     if out.len() < p.len() {
-        return Hulled::Refused(3);
+        return Err(Refusal::Lent);
     }
-    Hulled::Vertices(walk::convex_hull(p, out))
+    Ok(walk::convex_hull(p, out))
 }
 
 // The quad of the vertices of a hull: the farthest pair, and the farthest point on either side of
 // it.
-pub fn quad(p: &[f32]) -> Corners
+pub fn quad(p: &[f32]) -> Option<Quad>
     ensures { values_of result ≡ quad_floats p.now }
 {
     if p.len() / 2 < 4 {
-        return Corners::NoQuad;
+        return None;
     }
     let t = sides::farthest(p);
     let a = t.a;
@@ -52,11 +47,11 @@ pub fn quad(p: &[f32]) -> Corners
     if 0.0 < u {
         if w < 0.0 {
             if 0.0 <= sides::area_at(p, a, c, b, d) {
-                return points::corners_at(p, a, c, b, d);
+                return Some(points::corners_at(p, a, c, b, d));
             }
-            return points::corners_at(p, a, d, b, c);
+            return Some(points::corners_at(p, a, d, b, c));
         }
-        return Corners::NoQuad;
+        return None;
     }
-    Corners::NoQuad
+    None
 }

@@ -1,5 +1,5 @@
 // Points of a list of alternating x and y, by their number.
-ghost use Rattle.std.specs.Prelude.{◌≡◌, [], ◌∷◌, ◌<◌};
+ghost use Rattle.std.specs.Prelude.{◌≡◌, [], ◌∷◌, ◌<◌, Some};
 ghost use Rattle.hull.specs.Points.{many, x_at, y_at, points_at};
 ghost use Rattle.hull.specs.Hull.{cross_at, d2_at};
 ghost use Rattle.hull.specs.Quad.{values_of};
@@ -18,13 +18,6 @@ pub struct Quad {
     pub b: Point,
     pub c: Point,
     pub d: Point,
-}
-
-// A quad, or none.
-#[derive(Clone, Copy)]
-pub enum Corners {
-    Found(Quad),
-    NoQuad,
 }
 
 // The coordinates of point i.
@@ -74,21 +67,17 @@ fn point_at(p: &[f32], i: usize) -> Point
 }
 
 // The quad of points a, b, c and d.
-pub(crate) fn corners_at(p: &[f32], a: usize, b: usize, c: usize, d: usize) -> Corners
+pub(crate) fn corners_at(p: &[f32], a: usize, b: usize, c: usize, d: usize) -> Quad
     requires { (a < many p.now)
         × (b < many p.now)
         × (c < many p.now)
         × (d < many p.now) }
-    ensures { values_of result ≡ points_at p.now (a ∷ b ∷ c ∷ d ∷ []) }
+    ensures { values_of (Some result) ≡ points_at p.now (a ∷ b ∷ c ∷ d ∷ []) }
 {
-    let pa = point_at(p, a);
-    let pb = point_at(p, b);
-    let pc = point_at(p, c);
-    let pd = point_at(p, d);
-    Corners::Found(Quad {
-        a: pa,
-        b: pb,
-        c: pc,
-        d: pd,
-    })
+    Quad {
+        a: point_at(p, a),
+        b: point_at(p, b),
+        c: point_at(p, c),
+        d: point_at(p, d),
+    }
 }

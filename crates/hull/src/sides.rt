@@ -69,10 +69,8 @@ pub fn most(p: &[f32], a: usize, b: usize, under: bool) -> Outermost
 {
     let n = p.len() / 2;
     let mut k = Outermost { at: a, val: 0.0 };
-    let mut i = 0;
-    while i < n {
+    for i in 0..n {
         k = farther(p, a, b, k, i, under);
-        i += 1;
     }
     k
 }
@@ -114,10 +112,8 @@ fn widest(p: &[f32], best: Pair, i: usize) -> Pair
 {
     let n = p.len() / 2;
     let mut pair = best;
-    let mut j = i + 1;
-    while j < n {
+    for j in i + 1..n {
         pair = wider(p, pair, i, j);
-        j += 1;
     }
     pair
 }
@@ -136,10 +132,8 @@ pub fn farthest(p: &[f32]) -> Pair
         b: 0,
         far: -1.0,
     };
-    let mut i = 0;
-    while i < n {
+    for i in 0..n {
         best = widest(p, best, i);
-        i += 1;
     }
     best
 }

@@ -43,10 +43,8 @@ fn next_of(p: &[f32], cur: usize) -> usize
 {
     let n = p.len() / 2;
     let mut next = (cur + 1) % n;
-    let mut i = 0;
-    while i < n {
+    for i in 0..n {
         next = taken(p, cur, next, i);
-        i += 1;
     }
     next
 }
@@ -86,10 +84,8 @@ fn start_of(p: &[f32]) -> usize
 {
     let n = p.len() / 2;
     let mut best = 0;
-    let mut i = 0;
-    while i < n {
+    for i in 0..n {
         best = first_of(p, best, i);
-        i += 1;
     }
     best
 }
@@ -118,15 +114,13 @@ pub fn convex_hull(p: &[f32], out: &mut [f32]) -> usize
     }
     let start = start_of(p);
     let mut cur = start;
-    let mut k = 0;
-    while k < n {
+    for k in 0..n {
         out[2 * k] = x_at(p, cur);
         out[2 * k + 1] = y_at(p, cur);
-        k += 1;
         cur = next_of(p, cur);
         if same_at(p, cur, start) {
-            return k;
+            return k + 1;
         }
     }
-    k
+    n
 }

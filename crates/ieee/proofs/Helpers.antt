@@ -1,21 +1,21 @@
 -- What the code's tests say.
 --     zero, +0 in either format: +0, zero32, zero64
---     `abs`: abs_neg, abs-zero, abs-else
---     `is_finite`: finite-yes, finite-high, finite-low, finite-by
+--     `abs`: abs_neg, abs-library
+--     `is_finite`: finite-library
 --     the sign is the highest bit: sign_bit
 --     NaN tests: ne-nan, lt-numbers
 --     `max` and `before`, by the tests: max_by, max-by, before_by, before-by
 --     float to an unsigned integer: trunc-in, trunc-over, trunc-none, above_minus_one, below_64, trunc-fits
 -- Assumes nothing.
-use Rattle.std.proofs.Common.{◌≡◌, ℕ, zero, suc, ◌+◌, ◌-◌, ◌*◌, ◌/◌, ◌%◌, ◌^◌, ◌<◌, ◌≤◌, min, Bool, true, false, cond, not, ◌&&◌, ◌||◌, T, eqb, ltb, leb, ℤ, pos, sym, refl, ap, ◌∙◌, subst, true≢false, lt_of_lt_of_le, lt_irrefl, mul-le-mul_right, zero-lt-suc, div-lt_iff_lt-mul, mul-le-mul_left, mul-pos, one-mul, le-div_iff_mul-le, zero-mul, mul-one, arith, eqb→eq, ltb→lt, lt→ltb, nltb→le, pow_pos, pow_mono}
+use Rattle.std.proofs.Common.{◌≡◌, ℕ, zero, suc, ◌+◌, ◌-◌, ◌*◌, ◌/◌, ◌%◌, ◌^◌, ◌<◌, ◌≤◌, min, Bool, true, false, cond, not, ◌&&◌, ◌||◌, T, eqb, ltb, leb, pos, sym, refl, ap, ◌∙◌, subst, true≢false, lt_of_lt_of_le, mul-le-mul_right, zero-lt-suc, div-lt_iff_lt-mul, mul-le-mul_left, mul-pos, one-mul, le-div_iff_mul-le, zero-mul, mul-one, arith, ltb→lt, lt→ltb, nltb→le, pow_pos, pow_mono}
 use native.Mathlib.Nat.{zero-div}
-use mathlib.Core.Bool.{beq, false≢true}
-use lib.Ieee.{Float, nan, inf, fin, Format, binary32, binary64, prec, hid, ones, top, low, up, down, odd, lt, eq, ne, neg, fits, is_nan}
+use mathlib.Core.Bool.{false≢true}
+use lib.Ieee.{Float, nan, inf, fin, Format, binary32, binary64, prec, hid, ones, top, low, up, down, odd, lt, ne, neg, fits, is_nan}
 use lib.Ieee.{of_fields, of_bits, to_bits, to_unsigned}
-use lib.Ieee.Fits.{up_pos, down_pos, and_l}
-use lib.Ieee.Bits.{of_bits-to_bits, is_true}
+use lib.Ieee.Fits.{down_pos}
+use lib.Ieee.Bits.{of_bits-to_bits}
 use lib.Ieee.Casts.{to_unsigned-lt}
-use lib.Ieee.Back.{whole_unique}
+use Rattle.std.specs.Float.{float_with_sign, float_is_finite}
 use Rattle.ieee.specs.Ops.{abs, sign, finite, max, before}
 
 T_of : {b : Bool} → b ≡ true → T b
@@ -36,9 +36,6 @@ pub zero64 : of_bits binary64 0 ≡ +0
 unfolding of_bits
 zero64 = refl
 
-no_zero : (m : ℕ) (e : ℤ) → suc m * up e ≡ 0 → ⊥
-no_zero m e h = lt_irrefl 0 (subst (λ (z : ℕ). 0 < z) h (mul-pos (zero-lt-suc m) (up_pos e)))
-
 below_none : (a b : ℕ) → ltb a b ≡ true → b ≡ 0 → ⊥
 below_none a b h e = let l = ltb→lt a b (T_of h) in omega arith
 
@@ -51,73 +48,18 @@ abs_neg (inf false) h = absurd (false≢true h)
 abs_neg (fin true m e) h = refl
 abs_neg (fin false m e) h = absurd (below_none (m * up e * 1) (0 * down e) h (zero-mul (down e)))
 
-pub abs-zero : (f : Format) (x : Float) → T (fits f x) → eq x +0 ≡ true → +0 ≡ abs x
-unfolding eq abs
-abs-zero f nan t h = absurd (false≢true h)
-abs-zero f (inf s) t h = absurd (false≢true h)
-abs-zero f (fin s zero e) t h =
-    whole_unique f +0 (fin false zero e) false 0 (unfold fits in tt) (unfold fits in t) (refl, refl)
-    (refl, mul-one (zero * up e) ∙ zero-mul (up e) ∙ sym (zero-mul (down e)))
-abs-zero f (fin s (suc m) e) t h =
-    absurd (no_zero m e
-    (sym (mul-one (suc m * up e))
-    ∙ eqb→eq (suc m * up e * 1) (0 * down e)
-    (and_l (eqb (suc m * up e * 1) (0 * down e)) (beq s false || eqb (suc m * up e * 1) 0) (T_of h))
-    ∙ zero-mul (down e)))
-
-or-true : (a : Bool) → (a || true) ≡ true
-or-true true = refl
-or-true false = refl
-
-level-zero : (s : Bool) (a b : ℕ) → a ≡ 0 → b ≡ 0 → (eqb a b && (beq s false || eqb a 0)) ≡ true
-level-zero s a b p q =
-    ap (λ (a : ℕ). eqb a b && (beq s false || eqb a 0)) p ∙ ap (λ (b : ℕ). eqb 0 b && (beq s false || eqb 0 0)) q
-    ∙ or-true (beq s false)
-
-pub abs-else : (x : Float) → lt x +0 ≡ false → eq x +0 ≡ false → x ≡ abs x
-unfolding lt eq abs
-abs-else nan h k = refl
-abs-else (inf true) h k = absurd (true≢false h)
-abs-else (inf false) h k = refl
-abs-else (fin false m e) h k = refl
-abs-else (fin true zero e) h k =
-    absurd (true≢false (sym (level-zero true (zero * up e * 1) (0 * down e) (mul-one (zero * up e) ∙ zero-mul (up e)) (zero-mul (down e)))
-    ∙ k))
-abs-else (fin true (suc m) e) h k =
-    absurd (true≢false (sym
-    (is_true (ltb 0 (suc m * up e * 1 + 0 * down e))
-    (lt→ltb 0 (suc m * up e * 1 + 0 * down e)
-    (more (suc m * up e * 1) (0 * down e) (mul-pos (mul-pos (zero-lt-suc m) (up_pos e)) (zero-lt-suc 0))))) ∙ h))
-  where
-    more : (a b : ℕ) → 0 < a → 0 < a + b
-    more a b h = omega arith
+pub abs-library : (x : Float) → float_with_sign false x ≡ abs x
+unfolding float_with_sign abs
+abs-library nan = refl
+abs-library (inf s) = refl
+abs-library (fin s m e) = refl
 
 -- ---- `is_finite`
-pub finite-yes : (x : Float) → lt x (inf false) ≡ true → lt (inf true) x ≡ true → finite x ≡ true
-unfolding lt finite
-finite-yes nan h k = absurd (false≢true h)
-finite-yes (inf true) h k = absurd (false≢true k)
-finite-yes (inf false) h k = absurd (false≢true h)
-finite-yes (fin s m e) h k = refl
-
-pub finite-high : (x : Float) → lt x (inf false) ≡ false → finite x ≡ false
-unfolding lt finite
-finite-high nan h = refl
-finite-high (inf s) h = refl
-finite-high (fin s m e) h = absurd (true≢false h)
-
-pub finite-low : (x : Float) → lt (inf true) x ≡ false → finite x ≡ false
-unfolding lt finite
-finite-low nan h = refl
-finite-low (inf s) h = refl
-finite-low (fin s m e) h = absurd (true≢false h)
-
-pub finite-by : (x : Float) → lt x (inf false) ≡ true → lt (inf true) x ≡ finite x
-unfolding lt finite
-finite-by nan h = refl
-finite-by (inf true) h = refl
-finite-by (inf false) h = absurd (false≢true h)
-finite-by (fin s m e) h = refl
+pub finite-library : (x : Float) → float_is_finite x ≡ finite x
+unfolding float_is_finite finite
+finite-library nan = refl
+finite-library (inf s) = refl
+finite-library (fin s m e) = refl
 
 -- ---- the sign is the highest bit
 odd-sign-is : (d : ℕ) (s : Bool) (q k l : ℕ) → sign (odd d s q k l) ≡ s

@@ -14,6 +14,7 @@ ghost use Rattle.ieee.specs.Narrow.{narrow};
 ghost use Rattle.ieee.specs.Ops.{abs, sign, finite, max, before};
 
 // The root of x, rounded to the nearest f32; of -0 it is -0, and below 0 a NaN.
+// Kept: theorem `RootNearest` is about `sqrt` of specs/Root.antt, and the library's `sqrt` promises the kit's own.
 pub fn root(x: f32) -> f32
     ensures { result ≡ sqrt binary32 x }
 {
@@ -28,6 +29,7 @@ pub fn root(x: f32) -> f32
 }
 
 // x rounded to the nearest f32, a tie to the even one: the Rust's `as f32`.
+// Kept: `narrow_bits` adds once for a normal value; the library's `nearest_f64_to_f32_with_nan` decodes each.
 pub fn narrowed(x: f64) -> f32
     ensures { result ≡ narrow x }
 {
@@ -63,36 +65,25 @@ pub fn narrowed2(x: f64, y: f64) -> Two
 }
 
 // The magnitude of an f32; of either zero it is +0.
+// Kept: beside `abs64`, since the library has no trait of the floats' methods for one generic function.
 pub fn abs32(x: f32) -> f32
     ensures { result ≡ abs x }
 {
-    if x < 0.0 {
-        -x
-    } else if x == 0.0 {
-        0.0
-    } else {
-        x
-    }
+    x.abs()
 }
 
 // The magnitude of an f64; of either zero it is +0.
 pub fn abs64(x: f64) -> f64
     ensures { result ≡ abs x }
 {
-    if x < 0.0 {
-        -x
-    } else if x == 0.0 {
-        0.0
-    } else {
-        x
-    }
+    x.abs()
 }
 
 // Whether x is neither a NaN nor an infinity.
 pub fn is_finite(x: f32) -> bool
     ensures { result ≡ finite x }
 {
-    if x < 1.0 / 0.0 { -1.0 / 0.0 < x } else { false }
+    x.is_finite()
 }
 
 // The sign of an x that is no NaN.
@@ -104,6 +95,7 @@ fn negative(x: f32) -> bool
 }
 
 // The larger of x and y; of a NaN and a number the number; of -0 and +0 it is +0.
+// Kept: of -0 and +0 the library's `max` may give either, and `max` of specs/Ops.antt is +0.
 pub fn max32(x: f32, y: f32) -> f32
     ensures { result ≡ max x y }
 {
@@ -125,6 +117,7 @@ pub fn max32(x: f32, y: f32) -> f32
 }
 
 // Whether x comes before y in the total order: every NaN last, all equal, and -0 before +0.
+// Kept: the library's `total_cmp` tells NaNs apart, and `before` of specs/Ops.antt does not.
 pub fn before32(x: f32, y: f32) -> bool
     ensures { result ≡ before x y }
 {
@@ -144,6 +137,7 @@ pub fn before32(x: f32, y: f32) -> bool
 }
 
 // x cut toward zero to a u32: 0 from below and for a NaN, the greatest from above.
+// Kept: the library's `saturating_f32_to_u32` widens to f64 as well, once more for each coordinate of crate doubled.
 pub fn to_u32(x: f32) -> u32
     ensures { result ≡ Ieee.to_unsigned 32 x }
 {
@@ -159,6 +153,7 @@ pub fn to_u32(x: f32) -> u32
 }
 
 // x cut toward zero to a u8: 0 from below and for a NaN, the greatest from above.
+// Kept: one text with `to_u32` needs a trait of both types and a parameter for the bound, longer than these lines.
 pub fn to_u8(x: f32) -> u8
     ensures { result ≡ Ieee.to_unsigned 8 x }
 {

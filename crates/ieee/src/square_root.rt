@@ -26,23 +26,12 @@ fn place(b: u32) -> u32
     }
 }
 
-// The whole number nearest to the root of m. The root lies from r up to, but not at, r + step.
+// The whole number nearest to the root of m.
 fn near_root(m: u64) -> u64
     requires { m < 281474976710656 }
     ensures { result ≡ near_root m }
 {
-    let mut r = 0u64;
-    let mut step = 0x100_0000u64;
-    while step > 1 {
-        let half = step / 2;
-        let t = r + half;
-        if t * t <= m {
-            r = t;
-            step = step - half;
-        } else {
-            step = half;
-        }
-    }
+    let r = m.isqrt();
     if r * r + r < m { r + 1 } else { r }
 }
 
@@ -79,7 +68,7 @@ fn guess(b: u32) -> u64
 }
 
 // The whole number nearest to the root of m: the guess from a pattern b where m lies between the
-// squares of the halves beside it, else by bisection.
+// squares of the halves beside it, else by the whole root.
 fn quick_root(m: u64, b: u32) -> u64
     requires { m < 281474976710656 }
     ensures { result ≡ near_root m }
@@ -104,6 +93,7 @@ pub fn root_bits(b: u32) -> u32
     let m = digits(b);
     let q = place(b) + 1;
     // m * 2^p is n * 4^k, q is p + 1; n is large enough but for the smallest values
+    // Kept: n ends the loop, and k only keeps pace with it.
     let mut n = m * ((1 + q % 2) as u64) * 0x80_0000;
     let mut k = q / 2 - 12;
     while n < 0x4000_0000_0000 {

@@ -21,8 +21,8 @@ use Rattle.pgm.specs.Doors.{check_header, found}
 use Rattle.pgm.specs.Steps.{begun, is_ended, stepped, steps_over}
 use Rattle.pgm.specs.declared.steps.Reading.{Reading}
 use Rattle.pgm.proofs.Counted.{step_counts}
-use Rattle.pgm.specs.declared.File.{File}
-use Rattle.pgm.specs.declared.File.TheVariants.{Refused}
+use Rattle.pgm.specs.declared.Image.{Image}
+use Rattle.laws.specs.Said.{Said, refuse}
 use Rattle.tray.specs.Input.{head_read, asked_to, check_file_to, file_to}
 use Rattle.tray.proofs.Headers.{after_letters, head-through, head_more, asked-grows}
 use Rattle.tray.proofs.Readings.{letters-kept, at-two}
@@ -110,7 +110,7 @@ short-letters (suc (suc n)) l few = absurd (omega arith)
 
 -- ---- what is read of a file
 module _ (most : ℕ) where
-  letters-off : (s : List ℕ) → has_letters s ≡ false → Refused 14 ≡ file_to most s
+  letters-off : (s : List ℕ) → has_letters s ≡ false → refuse 14 ≡ file_to most s
   unfolding file_to check_file_to check_header has_form found
   letters-off s e = rw e
 
@@ -129,7 +129,7 @@ module _ (most : ℕ) where
       go (inl e) = omega (arith, reads_on s e, at-two s)
       go (inr e) = omega (arith, reads-off s e)
 
-  pub few-read : (s : List ℕ) (n : ℕ) → n < 2 → 2 ≤ length s → FileRead most s (Refused 14)
+  pub few-read : (s : List ℕ) (n : ℕ) → n < 2 → 2 ≤ length s → FileRead most s (refuse 14)
   few-read s n few long = record {
     count = n;
     within = omega arith;
@@ -137,7 +137,7 @@ module _ (most : ℕ) where
     answer = letters-off (take n s) (short-letters n s few);
   }
 
-  pub others-read : (s : List ℕ) → has_letters s ≡ false → 2 ≤ length s → FileRead most s (Refused 14)
+  pub others-read : (s : List ℕ) → has_letters s ≡ false → 2 ≤ length s → FileRead most s (refuse 14)
   others-read s e long = record {
     count = 2;
     within = long;
@@ -145,7 +145,7 @@ module _ (most : ℕ) where
     answer = letters-off (take 2 s) (letters-kept s 2 (omega arith) ∙ e);
   }
 
-  pub all_read : (s : List ℕ) (n : ℕ) (r : File) → has_letters s ≡ true → n ≤ length s → n ≤ (head_read s).at + asked_to most (head_read s)
+  pub all_read : (s : List ℕ) (n : ℕ) (r : Said Image) → has_letters s ≡ true → n ≤ length s → n ≤ (head_read s).at + asked_to most (head_read s)
       → r ≡ file_to most (take n s) → FileRead most s r
   all_read s n r letters within few e = record {
     count = n;
@@ -154,7 +154,7 @@ module _ (most : ℕ) where
     answer = e;
   }
 
-  pub pictured : (s : List ℕ) (r : File) → FileRead most s r → FilePictured most s r
+  pub pictured : (s : List ℕ) (r : Said Image) → FileRead most s r → FilePictured most s r
   pictured s r f w h at e =
       let p = file-picture most (take f.count s) w h at (sym f.answer ∙ e) in
       let n : length (take f.count s) ≤ length s = simp length-take (omega arith) in

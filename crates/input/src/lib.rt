@@ -3,12 +3,14 @@
 #![tactic(auto)]
 
 ghost use Rattle.std.specs.Prelude.{true, ◌≡◌, ◌+◌, ◌*◌, ◌≤◌, length, take};
+ghost use Rattle.refusal.specs.Numbers.{said};
 ghost use Rattle.pgm.specs.Form.{has_letters};
 ghost use Rattle.tray.specs.Input.{head_read, asked_to, file_to};
 ghost use Rattle.input.specs.Input.{FileRead, FilePictured};
 
-use pgm::File;
+use pgm::Image;
 use pgm::steps::Reading;
+use refusal::Refusal;
 
 // The number of standard input.
 const STDIN_FILENO: i32 = 0;
@@ -32,11 +34,10 @@ pub fn read_header(bytes: &mut [u8]) -> Reading
     ensures letters { take 2 bytes.new ≡ take 2 bytes.old }
 {
     let mut h = pgm::steps::begin();
-    while h.at < 4096 {
+    for at in 2..4096 {
         if pgm::steps::ended(h) {
             return h;
         }
-        let at = h.at;
         if read_part(bytes, at, 1) < 1 {
             return h;
         }
@@ -60,11 +61,11 @@ pub fn read_rest(bytes: &mut [u8], most: usize) -> usize
 }
 
 // The picture of a file in the first n bytes, which begin with the letters.
-fn find(bytes: &[u8], n: usize, most: usize) -> File
+fn find(bytes: &[u8], n: usize, most: usize) -> Result<Image, Refusal>
     requires n_in_bounds { n ≤ length bytes.now }
     requires bytes_value { has_letters (take n bytes.now) ≡ true }
     requires most_bound { most ≤ 4096 }
-    ensures { result ≡ file_to most (take n bytes.now) }
+    ensures { said result ≡ file_to most (take n bytes.now) }
 {
     tray::file::find(&bytes[..n], most)
 }
@@ -72,18 +73,18 @@ fn find(bytes: &[u8], n: usize, most: usize) -> File
 // Reads a file with sides up to `most`. Refusals in order: 14, not the header of a PGM file; 15,
 // another maximum value than 255; 1, a side outside 1..4,096; 13, a side over `most`; 2, too few
 // pixels.
-pub fn read_file(bytes: &mut [u8], most: usize) -> File
+pub fn read_file(bytes: &mut [u8], most: usize) -> Result<Image, Refusal>
     requires most_bound { most ≤ 4096 }
     requires most_in_bounds { 4096 + most * most ≤ length bytes.old }
-    ensures bytes { FileRead most bytes.new result }
-    ensures pictured { FilePictured most bytes.new result }
+    ensures bytes { FileRead most bytes.new (said result) }
+    ensures pictured { FilePictured most bytes.new (said result) }
 {
     let n = read_part(bytes, 0, 2);
     if n < 2 {
-        return File::Refused(14);
+        return Err(Refusal::Header);
     }
     if !pgm::has_letters(bytes) {
-        return File::Refused(14);
+        return Err(Refusal::Header);
     }
     let all = read_rest(bytes, most);
     find(bytes, all, most)

@@ -2,17 +2,17 @@
 ghost use Rattle.std.specs.Prelude.{◌≡◌, ◌+◌, ◌*◌, ◌≤◌, ◌<◌, ltb, length};
 ghost use Rattle.laws.specs.Fold.{bit, sum_to};
 ghost use Rattle.laws.specs.Plane.{plane, drawn, box};
-ghost use Rattle.labels.specs.Cells.{cells8, span8, cells_of, ink_pixels};
+ghost use Rattle.labels.specs.Cells.{cells8, cells_of, ink_pixels};
 ghost use Rattle.labels.specs.Inner.{row_below, below, CellInside, Levelled, cell_mark, cell_mark_at};
 
 use crate::groups::MARK;
-use levels::cells::cells_of;
+use levels::cells::{cells_of, span_of};
 
 // 1 for a byte below the threshold. A count of bytes in a byte lets the compiler take many at once.
 fn one_below(v: u8, t: u8) -> u8
     ensures { result ≡ bit (ltb v t) }
 {
-    if v < t { 1 } else { 0 }
+    u8::from(v < t)
 }
 
 // How many bytes of a row of at most 8 are below the threshold.
@@ -22,10 +22,8 @@ fn row_ink(row: &[u8], t: u8) -> u8
         × (result ≤ 8) }
 {
     let mut n: u8 = 0;
-    let mut i = 0;
-    while i < row.len() {
-        n += one_below(row[i], t);
-        i += 1;
+    for v in row {
+        n += one_below(*v, t);
     }
     n
 }
@@ -36,12 +34,10 @@ fn box_ink(s: &[u8], w: usize, x0: usize, y0: usize, lx: usize, ly: usize, t: u8
     ensures { result ≡ box ◌+◌ 0 (below (plane w s.now) t) x0 y0 lx ly }
 {
     let mut n: u8 = 0;
-    let mut j = 0;
-    while j < ly {
+    for j in 0..ly {
         let a = (y0 + j) * w + x0;
         let e = a + lx;
         n += row_ink(&s[a..e], t);
-        j += 1;
     }
     n
 }
@@ -51,10 +47,8 @@ fn part_ink(s: &[u8], w: usize, x0: usize, y0: usize, lx: usize, ly: usize, t: u
     requires { CellInside s.now w x0 y0 lx ly }
     ensures { result ≡ box ◌+◌ 0 (below (plane w s.now) t) x0 y0 lx ly }
 {
-    if lx == 8 {
-        if ly == 8 {
-            return box_ink(s, w, x0, y0, 8, 8, t);
-        }
+    if lx == 8 && ly == 8 {
+        return box_ink(s, w, x0, y0, 8, 8, t);
     }
     box_ink(s, w, x0, y0, lx, ly, t)
 }
@@ -64,7 +58,7 @@ pub fn region_cells(n: usize) -> usize
     requires { n ≤ 4096 }
     ensures { result ≡ cells8 n }
 {
-    (n + 7) / 8
+    n.div_ceil(8)
 }
 
 // How many region cells a picture has: rows by columns.
@@ -75,15 +69,6 @@ pub fn cells_in(w: usize, h: usize) -> usize
     region_cells(h) * region_cells(w)
 }
 
-// How many pixels of cell c lie on a side of n.
-fn span_of(n: usize, c: usize) -> usize
-    requires { 8 * c < n }
-    ensures { result ≡ span8 n c }
-{
-    let left = n - 8 * c;
-    if left < 8 { left } else { 8 }
-}
-
 // How many pixels of the cell in column cx and row cy are ink. The threshold is read once: a region
 // cell lies in one level cell.
 fn cell_ink(s: &[u8], w: usize, h: usize, grid: &[u8], cx: usize, cy: usize) -> u8
@@ -92,7 +77,15 @@ fn cell_ink(s: &[u8], w: usize, h: usize, grid: &[u8], cx: usize, cy: usize) -> 
     ensures { result ≡ ink_pixels (plane w s.now) w h cx cy }
 {
     let t = grid[cy / 2 * cells_of(w) + cx / 2];
-    part_ink(s, w, 8 * cx, 8 * cy, span_of(w, cx), span_of(h, cy), t)
+    part_ink(
+        s,
+        w,
+        8 * cx,
+        8 * cy,
+        span_of(8, w, cx),
+        span_of(8, h, cy),
+        t,
+    )
 }
 
 fn mark_of(n: u8) -> u32
@@ -111,12 +104,11 @@ pub fn mark_cells(s: &[u8], w: usize, h: usize, grid: &[u8], labels: &mut [u32])
 {
     let cw = region_cells(w);
     let n = cells_in(w, h);
-    let mut k = 0;
+    // Kept: x and y are counted beside k; with a row's loop apart it is two functions, no plainer.
     let mut x = 0;
     let mut y = 0;
-    while k < n {
+    for k in 0..n {
         labels[k] = mark_of(cell_ink(s, w, h, grid, x, y));
-        k += 1;
         x += 1;
         if x == cw {
             x = 0;

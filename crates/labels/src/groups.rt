@@ -2,7 +2,7 @@
 //
 // In `labels` 0 is a cell without ink and MARK an ink cell that has no label yet. The first places
 // of `stack`, as many as its depth says, hold cells of which the cells near are still to be visited.
-ghost use Rattle.std.specs.Prelude.{◌≡◌, ◌+◌, ◌*◌, ◌-◌, ◌<◌, ◌≤◌, min, length, take};
+ghost use Rattle.std.specs.Prelude.{◌≡◌, ◌+◌, ◌*◌, ◌-◌, ◌<◌, ◌≤◌, length, take};
 ghost use Rattle.laws.specs.Lent.{UntouchedPast, laid};
 ghost use Rattle.laws.specs.Lists.{range};
 ghost use Rattle.labels.specs.Labelling.{MARK, State, after_visit, after_visits, window, emptied, after_group, labelling};
@@ -41,10 +41,8 @@ fn visit_row(
         → Shows labels.new stack.new result v (after_visits (range a (b - a)) σ) }
 {
     let mut k = depth;
-    let mut j = a;
-    while j < b {
+    for j in a..b {
         k = visit(labels, stack, k, j, v);
-        j += 1;
     }
     k
 }
@@ -72,21 +70,6 @@ fn visit_line(
     visit_row(labels, stack, depth, g * w + x0, g * w + x1, v)
 }
 
-// Three less, and 0 where that is below 0.
-fn low(x: usize) -> usize
-    ensures { result ≡ x - 3 }
-{
-    if x < 3 { 0 } else { x - 3 }
-}
-
-// Four more, and at most `w`.
-fn high(x: usize, w: usize) -> usize
-    requires { x ≤ 262144 }
-    ensures { result ≡ min (x + 4) w }
-{
-    if x + 4 < w { x + 4 } else { w }
-}
-
 // The visits of all cells near the cell `i`, in a grid of `h` rows of `w` cells.
 fn visit_near(
     labels: &mut [u32],
@@ -105,14 +88,13 @@ fn visit_near(
 {
     let x = i % w;
     let y = i / w;
-    let x0 = low(x);
-    let x1 = high(x, w);
-    let y1 = high(y, h);
+    let x0 = x.saturating_sub(3);
+    let x1 = (x + 4).min(w);
+    let y0 = y.saturating_sub(3);
+    let y1 = (y + 4).min(h);
     let mut k = depth;
-    let mut g = low(y);
-    while g < y1 {
+    for g in y0..y1 {
         k = visit_line(labels, stack, k, g, w, x0, x1, v);
-        g += 1;
     }
     k
 }
@@ -158,10 +140,8 @@ fn label_cells(labels: &mut [u32], stack: &mut [u32], w: usize, h: usize) -> u32
     ensures { Shows labels.new stack.new 0 result (labelling w h labels.old) }
 {
     let mut next: u32 = 0;
-    let mut s = 0;
-    while s < labels.len() {
+    for s in 0..labels.len() {
         next = label_at(labels, stack, s, w, h, next);
-        s += 1;
     }
     next
 }

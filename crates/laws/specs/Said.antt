@@ -1,5 +1,5 @@
 -- What a call of a door says, in the terms of docs/RULES.md's table of refusals: the number of a refusal, none, or a value. A door
--- is a public entry: it checks what it is given. Each enum that a door answers has a definition `..Said` of these three cases.
+-- is a public entry: it checks what it is given. `said` and `said_some` of crate `refusal` read these cases off a door's answer.
 -- Definitions only. Assumes nothing.
 use Rattle.std.specs.Prelude.{ℕ}
 

@@ -1,7 +1,7 @@
 -- Laws of places, edges and cells.
 --     outer-x-.., outer-y-.., inward-..   the pieces of each rule
 --     level-.., edge-..                   which edge, and the coordinate along it
---     shell-.., place-.., ..-given        what the code's calls give
+--     place-.., ..-given                  what the code's calls give
 -- Assumes nothing.
 use mathlib.Core.Path.{◌≡◌, refl, sym, ap, ◌∙◌, subst}
 use mathlib.Core.Bool.{Bool, true, false, not, ◌&&◌, cond}
@@ -15,8 +15,8 @@ use lib.Signed.{non_neg}
 use mir.Syntax.{w32}
 use mir.Val.{to_z, of_z}
 use Rattle.lcr_core.specs.Version.{side_of, quarter_of, positions_of}
-use Rattle.lcr_core.specs.Border.{InRange, depth_of, shell_of, coordinate, along_of, is_level, edge_of, offset_of, on_edge, position_at, pick_place, outer_x, outer_y, inward, outer_cell, inner_cell}
-use Rattle.lcr_core.specs.declared.border.Place.TheVariants.{At, Outside}
+use Rattle.lcr_core.specs.Border.{InRange, depth_of, shell_of, coordinate, along_of, is_level, edge_of, offset_of, on_edge, position_at, outer_x, outer_y, inward, outer_cell, inner_cell}
+use Rattle.std.specs.Prelude.{Some, None}
 use Rattle.lcr_core.specs.declared.border.Cell.{Cell}
 use Rattle.lcr_core.proofs.Signed.{read, low-range}
 
@@ -111,26 +111,20 @@ sign-is z r b er e = sym (twice (non_neg z)) ∙ ap not (sym er ∙ e)
 
 -- ---- shell and position
 
-pub shell-1 : (s : ℕ) (x y : ℤ) (dx dy : ℕ) → dx ≡ depth_of s x → dy ≡ depth_of s y → dx < dy → dy ≡ shell_of s x y
-shell-1 s x y dx dy ex ey h = omega arith
-
-pub shell-2 : (s : ℕ) (x y : ℤ) (dx dy : ℕ) → dx ≡ depth_of s x → dy ≡ depth_of s y → dy ≤ dx → dx ≡ shell_of s x y
-shell-2 s x y dx dy ex ey h = omega arith
-
-pub place-near : (v : ℕ) (x y : ℤ) → shell_of (side_of v) x y < 2 → Outside ≡ position_at v x y
-unfolding position_at pick_place
+pub place-near : (v : ℕ) (x y : ℤ) → shell_of (side_of v) x y < 2 → None ≡ position_at v x y
+unfolding position_at
 place-near v x y h = rw (lt-leb 2 (shell_of (side_of v) x y) h)
 
-pub place-far : (v : ℕ) (x y : ℤ) → 2 ≤ shell_of (side_of v) x y → 3 < shell_of (side_of v) x y → Outside ≡ position_at v x y
-unfolding position_at pick_place
+pub place-far : (v : ℕ) (x y : ℤ) → 2 ≤ shell_of (side_of v) x y → 3 < shell_of (side_of v) x y → None ≡ position_at v x y
+unfolding position_at
 place-far v x y h k = rw (le-leb 2 (shell_of (side_of v) x y) h, lt-leb (shell_of (side_of v) x y) 3 k)
 
 -- the position of a cell of the ring
 unfoldable pub position_of : ℕ → ℤ → ℤ → ℕ
 position_of v x y = on_edge (quarter_of v) (edge_of (side_of v) x y) (min (along_of (offset_of (side_of v) x y)) (quarter_of v)) % positions_of v
 
-pub place_in : (v : ℕ) (x y : ℤ) → 2 ≤ shell_of (side_of v) x y → shell_of (side_of v) x y ≤ 3 → At (position_of v x y) ≡ position_at v x y
-unfolding position_at pick_place position_of
+pub place_in : (v : ℕ) (x y : ℤ) → 2 ≤ shell_of (side_of v) x y → shell_of (side_of v) x y ≤ 3 → Some (position_of v x y) ≡ position_at v x y
+unfolding position_at position_of
 place_in v x y h k = rw (le-leb 2 (shell_of (side_of v) x y) h, le-leb (shell_of (side_of v) x y) 3 k)
 
 pub offset-depth : (s : ℕ) (x y : ℤ) → shell_of s x y ≤ 3 → depth_of s (offset_of s x y) ≤ 3
@@ -161,7 +155,7 @@ along-asks s x y o side es eo hx hy h =
 
 pub position-is : (v : ℕ) (x y o : ℤ) (r n q e u a : ℕ) → InRange x → InRange y → 2 ≤ shell_of (side_of v) x y → shell_of (side_of v) x y ≤ 3
     → n ≡ positions_of v → q ≡ quarter_of v → e ≡ edge_of (side_of v) x y → o ≡ offset_of (side_of v) x y
-    → a ≡ along_of (to_z w32 (of_z w32 o)) → u ≡ min a q → r ≡ on_edge q e u → At (r % n) ≡ position_at v x y
+    → a ≡ along_of (to_z w32 (of_z w32 o)) → u ≡ min a q → r ≡ on_edge q e u → Some (r % n) ≡ position_at v x y
 unfolding position_of
 position-is v x y o r n q e u a hx hy h k en eq ee eo ea eu er =
     let s = side_of v in
@@ -172,8 +166,8 @@ position-is v x y o r n q e u a hx hy h k en eq ee eo ea eu er =
     let er2 : r ≡ on_edge (quarter_of v) (edge_of s x y) (min (along_of (offset_of s x y)) (quarter_of v)) =
     er ∙ ap (λ (m : ℕ). on_edge m e u) eq ∙ ap (λ (m : ℕ). on_edge (quarter_of v) m u) ee
     ∙ ap (λ (m : ℕ). on_edge (quarter_of v) (edge_of s x y) m) eu2 in
-    ap (λ (m : ℕ). At (m % n)) er2
-    ∙ ap (λ (m : ℕ). At (on_edge (quarter_of v) (edge_of s x y) (min (along_of (offset_of s x y)) (quarter_of v)) % m)) en
+    ap (λ (m : ℕ). Some (m % n)) er2
+    ∙ ap (λ (m : ℕ). Some (on_edge (quarter_of v) (edge_of s x y) (min (along_of (offset_of s x y)) (quarter_of v)) % m)) en
     ∙ place_in v x y h k
 
 -- what a call of `depth` gives, as the machine reads its argument back

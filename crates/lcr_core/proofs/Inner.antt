@@ -12,7 +12,7 @@ use borrow.Author.Tests.{leb-true, leb-false, eqb-true, eqb-false}
 use Rattle.laws.proofs.Bools.{either}
 use Rattle.lcr_core.specs.Version.{quarter_of, positions_of}
 use Rattle.lcr_core.specs.Border.{coordinate, position_at, outer_x, outer_y, inward, inner_owner, inner_cell}
-use Rattle.lcr_core.specs.declared.border.Place.TheVariants.{At}
+use Rattle.std.specs.Prelude.{Some}
 use Rattle.lcr_core.proofs.Cells.{outer-x-1, outer-x-2, outer-x-3, outer-x-4, outer-y-1, outer-y-2, outer-y-3, outer-y-4, inward-1, inward-2, inward-3}
 use Rattle.lcr_core.proofs.Positions.{be, right, left, inner-by, inner-top, inner-bottom}
 
@@ -22,7 +22,7 @@ module _ (v p : ℕ) (h : p < positions_of v) where
 
   -- the inner cell of p is position k's
   abbrev Own : ℕ → Type 0
-  Own k = position_at v (coordinate (inward q (outer_x q p))) (coordinate (inward q (outer_y q p))) ≡ At k
+  Own k = position_at v (coordinate (inward q (outer_x q p))) (coordinate (inward q (outer_y q p))) ≡ Some k
 
   -- ---- at the corners and beside them
 
@@ -151,6 +151,6 @@ module _ (v p : ℕ) (h : p < positions_of v) where
               let g : 3 * q < p = leb-false p (3 * q) ec in
               on-left (omega (arith, n3.1)) (omega (arith, n0.1))
 
-pub inner-owner : (v p : ℕ) → p < positions_of v → position_at v (inner_cell v p).x (inner_cell v p).y ≡ At (inner_owner (quarter_of v) p)
+pub inner-owner : (v p : ℕ) → p < positions_of v → position_at v (inner_cell v p).x (inner_cell v p).y ≡ Some (inner_owner (quarter_of v) p)
 unfolding inner_cell
 inner-owner v p h = rw (mod-eq_of_lt h) (owner v p h)

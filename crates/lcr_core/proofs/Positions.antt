@@ -16,8 +16,7 @@ use lib.IntN.{pos, negsuc}
 use lib.Signed.{non_neg}
 use Rattle.lcr_core.specs.Version.{side_of, quarter_of, positions_of}
 use Rattle.lcr_core.specs.Border.{depth_of, shell_of, coordinate, along_of, is_level, edge_of, offset_of, on_edge, position_at, outer_x, outer_y, inward, outer_cell}
-use Rattle.lcr_core.specs.declared.border.Place.{Place}
-use Rattle.lcr_core.specs.declared.border.Place.TheVariants.{At}
+use Rattle.std.specs.Prelude.{Option, Some}
 use Rattle.lcr_core.proofs.Cells.{position_of, place_in, edge-top, edge-bottom, edge-left, edge-right, outer-x-1, outer-x-2, outer-x-3, outer-x-4, outer-y-1, outer-y-2, outer-y-3, outer-y-4}
 
 -- ---- depths
@@ -92,16 +91,16 @@ shell-of d e x y m p q h = ap (λ (k : ℕ). max k e) p ∙ ap (λ (k : ℕ). ma
 -- a cell of the ring, m cells out, by its edge and its place there
 place-on : (v x y e t m : ℕ) → 2 ≤ m → m ≤ 3 → max (out v x) (out v y) ≡ m
     → e ≡ edge_of (side_of v) (coordinate x) (coordinate y) → coordinate t ≡ offset_of (side_of v) (coordinate x) (coordinate y)
-    → t ≤ quarter_of v → position_at v (coordinate x) (coordinate y) ≡ At (on_edge (quarter_of v) e t % positions_of v)
+    → t ≤ quarter_of v → position_at v (coordinate x) (coordinate y) ≡ Some (on_edge (quarter_of v) e t % positions_of v)
 unfolding position_of
 place-on v x y e t m low high d ee eo ht =
     let a : along_of (offset_of (side_of v) (coordinate x) (coordinate y)) ≡ t = sym (ap along_of eo) ∙ along-at t in
     let u : min (along_of (offset_of (side_of v) (coordinate x) (coordinate y))) (quarter_of v) ≡ t = least-is _ _ t a ht in
     let z : shell_of (side_of v) (coordinate x) (coordinate y) ≡ m = shell-of _ _ _ _ m (depth-at v x) (depth-at v y) d in
     sym (place_in v (coordinate x) (coordinate y) (subst (λ (k : ℕ). 2 ≤ k) (sym z) low) (subst (λ (k : ℕ). k ≤ 3) (sym z) high))
-    ∙ ap (λ (k : ℕ). At (on_edge (quarter_of v) k
+    ∙ ap (λ (k : ℕ). Some (on_edge (quarter_of v) k
     (min (along_of (offset_of (side_of v) (coordinate x) (coordinate y))) (quarter_of v)) % positions_of v)) (sym ee)
-    ∙ ap (λ (k : ℕ). At (on_edge (quarter_of v) e k % positions_of v)) u
+    ∙ ap (λ (k : ℕ). Some (on_edge (quarter_of v) e k % positions_of v)) u
 
 left-most : (a b m : ℕ) → a ≡ m → b ≤ m → max a b ≡ m
 left-most a b m e h = omega arith
@@ -109,11 +108,11 @@ left-most a b m e h = omega arith
 right-most : (a b m : ℕ) → a ≤ m → b ≡ m → max a b ≡ m
 right-most a b m h e = omega arith
 
-at : (v k p : ℕ) → k ≡ p → p < positions_of v → At (k % positions_of v) ≡ At p
-at v k p e h = ap (λ (m : ℕ). At (m % positions_of v)) e ∙ ap At (mod-eq_of_lt h)
+at : (v k p : ℕ) → k ≡ p → p < positions_of v → Some (k % positions_of v) ≡ Some p
+at v k p e h = ap (λ (m : ℕ). Some (m % positions_of v)) e ∙ ap Some (mod-eq_of_lt h)
 
 module _ (v i : ℕ) (layer : i ≤ 1) where
-  pub top : (x : ℕ) → i ≤ x → x ≤ quarter_of v - i → position_at v (coordinate x) (coordinate i) ≡ At x
+  pub top : (x : ℕ) → i ≤ x → x ≤ quarter_of v - i → position_at v (coordinate x) (coordinate i) ≡ Some x
   unfolding on_edge
   top x l h =
       let o = out-low v i layer in
@@ -123,7 +122,7 @@ module _ (v i : ℕ) (layer : i ≤ 1) where
       ∙ at v x x refl (omega arith)
 
   pub bottom : (x : ℕ) → i ≤ x → x ≤ quarter_of v - i
-      → position_at v (coordinate x) (coordinate (quarter_of v - i)) ≡ At (3 * quarter_of v - x)
+      → position_at v (coordinate x) (coordinate (quarter_of v - i)) ≡ Some (3 * quarter_of v - x)
   unfolding on_edge
   bottom x l h =
       let o = out-high v i layer in
@@ -134,7 +133,7 @@ module _ (v i : ℕ) (layer : i ≤ 1) where
       place-on v x (quarter_of v - i) 2 x (3 - i) (omega arith) (omega arith) (right-most _ _ _ w o) e.0 e.1 (omega arith)
       ∙ at v (3 * quarter_of v - x) _ refl (omega arith)
 
-  pub right : (y : ℕ) → i < y → y < quarter_of v - i → position_at v (coordinate (quarter_of v - i)) (coordinate y) ≡ At (quarter_of v + y)
+  pub right : (y : ℕ) → i < y → y < quarter_of v - i → position_at v (coordinate (quarter_of v - i)) (coordinate y) ≡ Some (quarter_of v + y)
   unfolding on_edge
   right y l h =
       let o = out-high v i layer in
@@ -144,7 +143,7 @@ module _ (v i : ℕ) (layer : i ≤ 1) where
       place-on v (quarter_of v - i) y 1 y (3 - i) (omega arith) (omega arith) (left-most _ _ _ o (omega arith)) e.0 e.1 (omega arith)
       ∙ at v (quarter_of v + y) _ refl (omega arith)
 
-  pub left : (y : ℕ) → i < y → y < quarter_of v - i → position_at v (coordinate i) (coordinate y) ≡ At (4 * quarter_of v - y)
+  pub left : (y : ℕ) → i < y → y < quarter_of v - i → position_at v (coordinate i) (coordinate y) ≡ Some (4 * quarter_of v - y)
   unfolding on_edge
   left y l h =
       let o = out-low v i layer in
@@ -155,24 +154,24 @@ module _ (v i : ℕ) (layer : i ≤ 1) where
 
 -- ---- outer cells
 
-at_places : (v x y x' y' : ℕ) (a : Place) → x ≡ x' → y ≡ y' → position_at v (coordinate x) (coordinate y) ≡ a
+at_places : (v x y x' y' : ℕ) (a : Option ℕ) → x ≡ x' → y ≡ y' → position_at v (coordinate x) (coordinate y) ≡ a
     → position_at v (coordinate x') (coordinate y') ≡ a
 at_places v x y x' y' a ex ey e =
     sym (ap (λ (k : ℕ). position_at v (coordinate x) (coordinate k)) ey ∙ ap (λ (k : ℕ). position_at v (coordinate k) (coordinate y')) ex) ∙ e
 
 -- an answer at a number that is p
-pub be : (k p : ℕ) (a : Place) → a ≡ At k → k ≡ p → a ≡ At p
-be k p a h e = h ∙ ap At e
+pub be : (k p : ℕ) (a : Option ℕ) → a ≡ Some k → k ≡ p → a ≡ Some p
+be k p a h e = h ∙ ap Some e
 
 module _ (v p : ℕ) (h : p < positions_of v) where
   abbrev q : ℕ
   q = quarter_of v
 
-  outer-at : position_at v (coordinate (outer_x (quarter_of v) p)) (coordinate (outer_y (quarter_of v) p)) ≡ At p
+  outer-at : position_at v (coordinate (outer_x (quarter_of v) p)) (coordinate (outer_y (quarter_of v) p)) ≡ Some p
   outer-at = go (leb p q) refl (ltb p (2 * q)) refl (leb p (3 * q)) refl
     where
       go : (a : Bool) → leb p q ≡ a → (b : Bool) → ltb p (2 * q) ≡ b → (c : Bool) → leb p (3 * q) ≡ c
-          → position_at v (coordinate (outer_x q p)) (coordinate (outer_y q p)) ≡ At p
+          → position_at v (coordinate (outer_x q p)) (coordinate (outer_y q p)) ≡ Some p
       go true ea b eb c ec =
           let l : p ≤ q = leb-true p q ea in
           at_places v p 0 _ _ _ (outer-x-1 q p l) (outer-y-1 q p l) (top v 0 (omega arith) p (omega arith) (omega arith))
@@ -212,7 +211,7 @@ module _ (v p : ℕ) (h : p < positions_of v) where
           at_places v 0 (4 * q - p) _ _ _ (outer-x-4 q p g) (outer-y-4 q p g)
           (be _ p _ (left v 0 (omega arith) (4 * q - p) (omega arith) (omega arith)) (omega arith))
 
-pub position-outer : (v p : ℕ) → p < positions_of v → position_at v (outer_cell v p).x (outer_cell v p).y ≡ At p
+pub position-outer : (v p : ℕ) → p < positions_of v → position_at v (outer_cell v p).x (outer_cell v p).y ≡ Some p
 unfolding outer_cell
 position-outer v p h = rw (mod-eq_of_lt h) (outer-at v p h)
 
@@ -224,18 +223,18 @@ module _ (v p : ℕ) (h : p < positions_of v) where
 
   -- the inner cell's position from its places
   pub inner-by : (x y ox oy k : ℕ) → ox ≡ outer_x r p → oy ≡ outer_y r p → x ≡ inward r ox → y ≡ inward r oy
-      → position_at v (coordinate x) (coordinate y) ≡ At k
-      → position_at v (coordinate (inward r (outer_x r p))) (coordinate (inward r (outer_y r p))) ≡ At k
+      → position_at v (coordinate x) (coordinate y) ≡ Some k
+      → position_at v (coordinate (inward r (outer_x r p))) (coordinate (inward r (outer_y r p))) ≡ Some k
   inner-by x y ox oy k ex ey ix iy e =
       at_places v x y _ _ _ (ix ∙ ap (λ (m : ℕ). inward r m) ex) (iy ∙ ap (λ (m : ℕ). inward r m) ey) e
 
   -- on the top edge, with the right edge's first
   pub inner-top : (k : ℕ) → 1 ≤ k → k ≤ r - 1 → (ox oy : ℕ) → ox ≡ outer_x r p → oy ≡ outer_y r p → k ≡ inward r ox → 1 ≡ inward r oy
-      → position_at v (coordinate (inward r (outer_x r p))) (coordinate (inward r (outer_y r p))) ≡ At k
+      → position_at v (coordinate (inward r (outer_x r p))) (coordinate (inward r (outer_y r p))) ≡ Some k
   inner-top k l m ox oy ex ey ix iy = inner-by k 1 ox oy k ex ey ix iy (top v 1 (omega arith) k l m)
 
   pub inner-bottom : (x k : ℕ) → 1 ≤ x → x ≤ r - 1 → k ≡ 3 * r - x → (ox oy : ℕ) → ox ≡ outer_x r p → oy ≡ outer_y r p
       → x ≡ inward r ox → r - 1 ≡ inward r oy
-      → position_at v (coordinate (inward r (outer_x r p))) (coordinate (inward r (outer_y r p))) ≡ At k
+      → position_at v (coordinate (inward r (outer_x r p))) (coordinate (inward r (outer_y r p))) ≡ Some k
   inner-bottom x k l m e ox oy ex ey ix iy =
       inner-by x (r - 1) ox oy k ex ey ix iy (be _ k _ (bottom v 1 (omega arith) x l m) (sym e))

@@ -16,8 +16,7 @@ use Rattle.lcr_core.specs.Version.{quarter_of, positions_of}
 use Rattle.lcr_core.specs.Border.{position_at, outer_x, outer_y, outer_cell, cell_at}
 use Rattle.lcr_core.specs.Claims.{OnSquare}
 use Rattle.lcr_core.specs.declared.border.Cell.{Cell}
-use Rattle.lcr_core.specs.declared.border.Place.{Place}
-use Rattle.lcr_core.specs.declared.border.Place.TheVariants.{At}
+use Rattle.std.specs.Prelude.{Option, Some}
 use Rattle.lcr_core.proofs.Cells.{outer-x-1, outer-x-2, outer-x-3, outer-x-4, outer-y-1, outer-y-2, outer-y-3, outer-y-4}
 use Rattle.lcr_core.proofs.Positions.{position-outer}
 
@@ -136,6 +135,6 @@ from-square v cell s = go (eqb y 0) refl (eqb x (quarter_of v)) refl (eqb y (qua
 
 pub outer-once : (v p r : ℕ) → p < positions_of v → r < positions_of v → outer_cell v p ≡ outer_cell v r → p ≡ r
 outer-once v p r hp hr e =
-    let z : ◌≡◌ {A = Place} (At p) (At r) =
+    let z : ◌≡◌ {A = Option ℕ} (Some p) (Some r) =
     sym (position-outer v p hp) ∙ ap (λ (c : Cell). position_at v c.x c.y) e ∙ position-outer v r hr in
     cc

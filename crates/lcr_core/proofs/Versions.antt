@@ -5,15 +5,15 @@ use Prim.Native.Nat.{ℕ, ◌+◌, ◌<◌, ◌≤◌}
 use lib.Dec.{leb}
 use borrow.Author.Tests.{lt-ltb, le-ltb, le-leb}
 use Rattle.laws.proofs.Bools.{both}
-use Rattle.lcr_core.specs.Version.{version_after, pick_following, IsVersion, is_version}
-use Rattle.lcr_core.specs.declared.version.Following.TheVariants.{Next, End}
+use Rattle.lcr_core.specs.Version.{version_after, IsVersion, is_version}
+use Rattle.std.specs.Prelude.{Some, None}
 
-pub after_next : (v : ℕ) → v < 64 → Next (record { 0 = v + 1 }) ≡ version_after v
-unfolding version_after pick_following
+pub after_next : (v : ℕ) → v < 64 → Some (v + 1) ≡ version_after v
+unfolding version_after
 after_next v h = rw (lt-ltb v 64 h)
 
-pub after-end : (v : ℕ) → 64 ≤ v → End ≡ version_after v
-unfolding version_after pick_following
+pub after-end : (v : ℕ) → 64 ≤ v → None ≡ version_after v
+unfolding version_after
 after-end v h = rw (le-ltb v 64 h)
 
 -- the test of a version

@@ -6,7 +6,7 @@ ghost use Rattle.lcr_core.specs.Border.{InRange, shell_of, edge_of, offset_of, p
 
 use crate::border_seq::RING;
 use crate::places::{
-    along, clamped, depth, from_low, is_level, is_negative, on_edge, outer_x, outer_y, stepped,
+    along, depth, from_low, is_level, is_negative, on_edge, outer_x, outer_y, stepped,
 };
 use crate::version::Version;
 
@@ -18,17 +18,11 @@ pub struct Cell {
 }
 
 // An edge of the ring (0 top, 1 right, 2 bottom, 3 left), and the coordinate along it.
-#[derive(Drop)]
+// Kept: the C interface hands the edge out as this number.
+#[derive(Clone, Copy)]
 pub struct EdgeOffset {
     pub edge: usize,
     pub offset: i32,
-}
-
-// The position of a cell, or none.
-#[derive(Drop)]
-pub enum Place {
-    At(usize),
-    Outside,
 }
 
 // Where the row of a version starts in the table.
@@ -41,8 +35,7 @@ fn row_start(v: usize) -> usize
 
 // Whether the ring is light at a position, reduced modulo the positions.
 pub(crate) fn sequence_light(version: Version, position: usize) -> bool
-    requires { IsVersion version.0 }
-    ensures { result ≡ mark version.0 position }
+    ensures { result ≡ mark version position }
 {
     let n = version.positions();
     let p = position % n;
@@ -68,19 +61,16 @@ fn fill_marks(ring: &[u8], start: usize, n: usize, out: &mut [bool])
         × (n ≤ length out.old) }
     ensures { RowMarks ring.now start n out.new }
 {
-    let mut p: usize = 0;
-    while p < n {
+    for p in 0..n {
         out[p] = bit_of(ring[start + p / 8], p % 8);
-        p += 1;
     }
 }
 
 // All marks of a version, first in `out`. The table is brought in once: each use of a constant
 // array copies it.
 pub fn sequence(version: Version, out: &mut [bool])
-    requires version { IsVersion version.0 }
-    requires version_in_bounds { positions_of version.0 ≤ length out.old }
-    ensures { AllMarks version.0 out.new }
+    requires { positions_of version ≤ length out.old }
+    ensures { AllMarks version out.new }
 {
     let n = version.positions();
     let start = row_start(version.get() as usize);
@@ -92,23 +82,20 @@ pub fn sequence(version: Version, out: &mut [bool])
 pub(crate) fn shell(x: i32, y: i32, version: Version) -> usize
     requires in_range { InRange x }
     requires in_range_2 { InRange y }
-    ensures { result ≡ shell_of (side_of version.0) x y }
+    ensures { result ≡ shell_of (side_of version) x y }
 {
     let side = version.side() as usize;
     let dx = depth(x, side);
     let dy = depth(y, side);
-    if dx < dy {
-        return dy;
-    }
-    dx
+    dx.max(dy)
 }
 
 // Which edge a cell sits on, and its coordinate along it.
 pub(crate) fn edge_and_offset(x: i32, y: i32, version: Version) -> EdgeOffset
     requires in_range { InRange x }
     requires in_range_2 { InRange y }
-    ensures edge { result.edge ≡ edge_of (side_of version.0) x y }
-    ensures offset { result.offset ≡ offset_of (side_of version.0) x y }
+    ensures edge { result.edge ≡ edge_of (side_of version) x y }
+    ensures offset { result.offset ≡ offset_of (side_of version) x y }
 {
     let side = version.side() as usize;
     let dx = depth(x, side);
@@ -127,35 +114,37 @@ pub(crate) fn edge_and_offset(x: i32, y: i32, version: Version) -> EdgeOffset
 
 // A quarter of the positions of a version.
 pub fn quarter(version: Version) -> usize
-    ensures { result ≡ quarter_of version.0 }
+    ensures answer { result ≡ quarter_of version }
+    ensures version { IsVersion version }
 {
     4 * (version.get() as usize) + 22
 }
 
-// The position of a cell of the ring, clockwise from the top left corner of the outer square.
-pub fn position(x: i32, y: i32, version: Version) -> Place
+// The position of a cell, clockwise from the top left corner of the outer square; none where the
+// cell is not of the ring.
+pub fn position(x: i32, y: i32, version: Version) -> Option<usize>
     requires in_range { InRange x }
     requires in_range_2 { InRange y }
-    ensures { result ≡ position_at version.0 x y }
+    ensures { result ≡ position_at version x y }
 {
     let d = shell(x, y, version);
     if d < 2 {
-        return Place::Outside;
+        return None;
     }
     if 3 < d {
-        return Place::Outside;
+        return None;
     }
     let q = quarter(version);
     let n = version.positions();
     let e = edge_and_offset(x, y, version);
-    let u = clamped(along(e.offset, version.side() as usize), q);
-    Place::At(on_edge(q, e.edge, u) % n)
+    let u = along(e.offset, version.side() as usize).min(q);
+    Some(on_edge(q, e.edge, u) % n)
 }
 
 // The outer cell of a position, reduced modulo the positions.
 pub fn outer_cell(p: usize, version: Version) -> Cell
-    requires { IsVersion version.0 }
-    ensures { result ≡ outer_cell version.0 p }
+    ensures answer { result ≡ outer_cell version p }
+    ensures version { IsVersion version }
 {
     let q = quarter(version);
     let k = p % version.positions();
@@ -167,8 +156,8 @@ pub fn outer_cell(p: usize, version: Version) -> Cell
 
 // The cell one step inward from the outer cell.
 pub fn inner_cell(p: usize, version: Version) -> Cell
-    requires { IsVersion version.0 }
-    ensures { result ≡ inner_cell version.0 p }
+    ensures answer { result ≡ inner_cell version p }
+    ensures version { IsVersion version }
 {
     let q = quarter(version);
     let k = p % version.positions();

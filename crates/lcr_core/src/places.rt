@@ -1,6 +1,6 @@
 // Cells of the ring as places: a coordinate counted from the ring's outer edge, -3, so that the
 // outer square's places run from 0 to q, a quarter of the positions. The signed steps stand here.
-ghost use Rattle.std.specs.Prelude.{◌≡◌, not, ◌&&◌, leb, ltb, ◌<◌, ◌≤◌, ◌+◌, ◌*◌, min};
+ghost use Rattle.std.specs.Prelude.{◌≡◌, not, ◌&&◌, leb, ltb, ◌<◌, ◌≤◌, ◌+◌, ◌*◌};
 ghost use Rattle.std.specs.Int.Signed.{non_neg};
 ghost use Rattle.lcr_core.specs.Border.{InRange, depth_of, coordinate, along_of, on_edge, outer_x, outer_y, inward};
 
@@ -8,10 +8,7 @@ ghost use Rattle.lcr_core.specs.Border.{InRange, depth_of, coordinate, along_of,
 pub(crate) fn is_negative(c: i32) -> bool
     ensures { result ≡ not (non_neg c) }
 {
-    if c < 0 {
-        return true;
-    }
-    false
+    c < 0
 }
 
 // How far outside the symbol a coordinate lies.
@@ -51,10 +48,7 @@ pub(crate) fn from_low(k: usize) -> i32
 pub(crate) fn is_level(dx: usize, dy: usize) -> bool
     ensures { result ≡ (ltb 0 dy && leb dx dy) }
 {
-    if 0 < dy {
-        return dx <= dy;
-    }
-    false
+    0 < dy && dx <= dy
 }
 
 // The position at a place of an edge.
@@ -73,16 +67,6 @@ pub(crate) fn on_edge(q: usize, edge: usize, u: usize) -> usize
         return 3 * q - u;
     }
     4 * q - u
-}
-
-// The place along an edge, at most q.
-pub(crate) fn clamped(u: usize, q: usize) -> usize
-    ensures { result ≡ min u q }
-{
-    if u < q {
-        return u;
-    }
-    q
 }
 
 // The outer cell of a position, across and down, in places.

@@ -7,7 +7,7 @@
 // is 0 where an answer is given, 255 where there is none or a list does not fit.
 #![tactic(auto)]
 
-use hull::points::{Corners, Point, Quad};
+use hull::points::{Point, Quad};
 
 // One entry by its number (see crate `calls`): the words of its answer, first in `out`, and how
 // many.
@@ -91,7 +91,7 @@ pub extern "C" fn lcr_edge_quad(
         return 255;
     }
     let f = quad([q[0], q[1], q[2], q[3], q[4], q[5], q[6], q[7]]);
-    let Corners::Found(r) = fit::edges::edge_quad(s, f, cand, buf) else {
+    let Some(r) = fit::edges::edge_quad(s, f, cand, buf) else {
         return 255;
     };
     put(r, q);
@@ -121,7 +121,7 @@ pub extern "C" fn lcr_estimate_lens(
     }
     let f = quad([q[0], q[1], q[2], q[3], q[4], q[5], q[6], q[7]]);
     let m = Point { x: q[8], y: q[9] };
-    let l = lens::estimate::estimate_lens(s, Corners::Found(f), m, straight, buf);
+    let l = lens::estimate::estimate_lens(s, Some(f), m, straight, buf);
     q[10] = l.k;
     0
 }

@@ -2,5 +2,4 @@
 pub mod Attempts
 pub mod Founds
 pub mod Leaves
-pub mod MarkLaws
 pub mod Signed

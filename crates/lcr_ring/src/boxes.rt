@@ -22,5 +22,5 @@ pub extern "C" fn lcr_darkness(
         ≡ counts_after result gray.now levels.now width boxes.now
         counts.old }
 {
-    darkness::darkness(gray, levels, width, height, boxes, table, counts)
+    c_answers::number(darkness::darkness(gray, levels, width, height, boxes, table, counts))
 }

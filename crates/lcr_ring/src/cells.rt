@@ -1,15 +1,16 @@
 // Versions and border cells for C: the doors of crate `lcr_core`. Refusals: 8, then 12.
 ghost use Rattle.std.specs.Prelude.{◌≡◌};
+ghost use Rattle.laws.specs.Said.{left_of, result_of};
 ghost use Rattle.lcr_core.specs.Doors.{shell_answer, edge_answer, place_answer, outer_answer, inner_answer, mark_answer};
 ghost use Rattle.lcr_core.specs.Version.{version_answer};
-ghost use Rattle.c_cells.specs.Cells.{version_result, side_after, positions_after, depth_result, depth_after, edge_result, edge_after, offset_after, place_result, place_after, cell_result, x_after, y_after, mark_result, mark_after};
+ghost use Rattle.c_cells.specs.Cells.{side_after, positions_after, edge_after, offset_after, x_after, y_after};
 
 use lcr_core::version::Version;
 
 // Cells on a side of a version's symbol, and positions round its ring.
 #[unsafe(no_mangle)]
 pub extern "C" fn lcr_version(version: u32, side: &mut u16, positions: &mut usize) -> u32
-    ensures answer { result ≡ version_result (version_answer version) }
+    ensures answer { result ≡ result_of (version_answer version) }
     ensures side { side.new ≡ side_after (version_answer version) side.old }
     ensures positions { positions.new
         ≡ positions_after (version_answer version) positions.old }
@@ -20,9 +21,9 @@ pub extern "C" fn lcr_version(version: u32, side: &mut u16, positions: &mut usiz
 // How far outside the symbol a cell lies.
 #[unsafe(no_mangle)]
 pub extern "C" fn lcr_shell(version: u32, x: i32, y: i32, depth: &mut usize) -> u32
-    ensures answer { result ≡ depth_result (shell_answer version x y) }
+    ensures answer { result ≡ result_of (shell_answer version x y) }
     ensures depth { depth.new
-        ≡ depth_after (shell_answer version x y) depth.old }
+        ≡ left_of (shell_answer version x y) depth.old }
 {
     c_cells::cells::put_depth(lcr_core::doors::shell(version, x, y), depth)
 }
@@ -36,7 +37,7 @@ pub extern "C" fn lcr_edge_and_offset(
     edge: &mut usize,
     offset: &mut i32,
 ) -> u32
-    ensures answer { result ≡ edge_result (edge_answer version x y) }
+    ensures answer { result ≡ result_of (edge_answer version x y) }
     ensures edge { edge.new ≡ edge_after (edge_answer version x y) edge.old }
     ensures offset { offset.new
         ≡ offset_after (edge_answer version x y) offset.old }
@@ -51,9 +52,9 @@ pub extern "C" fn lcr_edge_and_offset(
 // The position of a cell of the ring.
 #[unsafe(no_mangle)]
 pub extern "C" fn lcr_position(version: u32, x: i32, y: i32, position: &mut usize) -> u32
-    ensures answer { result ≡ place_result (place_answer version x y) }
+    ensures answer { result ≡ result_of (place_answer version x y) }
     ensures position { position.new
-        ≡ place_after (place_answer version x y) position.old }
+        ≡ left_of (place_answer version x y) position.old }
 {
     c_cells::cells::put_place(lcr_core::doors::position(version, x, y), position)
 }
@@ -61,7 +62,7 @@ pub extern "C" fn lcr_position(version: u32, x: i32, y: i32, position: &mut usiz
 // The outer cell of a position.
 #[unsafe(no_mangle)]
 pub extern "C" fn lcr_outer_cell(version: u32, p: usize, x: &mut i32, y: &mut i32) -> u32
-    ensures answer { result ≡ cell_result (outer_answer version p) }
+    ensures answer { result ≡ result_of (outer_answer version p) }
     ensures x { x.new ≡ x_after (outer_answer version p) x.old }
     ensures y { y.new ≡ y_after (outer_answer version p) y.old }
 {
@@ -71,7 +72,7 @@ pub extern "C" fn lcr_outer_cell(version: u32, p: usize, x: &mut i32, y: &mut i3
 // The inner cell of a position.
 #[unsafe(no_mangle)]
 pub extern "C" fn lcr_inner_cell(version: u32, p: usize, x: &mut i32, y: &mut i32) -> u32
-    ensures answer { result ≡ cell_result (inner_answer version p) }
+    ensures answer { result ≡ result_of (inner_answer version p) }
     ensures x { x.new ≡ x_after (inner_answer version p) x.old }
     ensures y { y.new ≡ y_after (inner_answer version p) y.old }
 {
@@ -81,8 +82,8 @@ pub extern "C" fn lcr_inner_cell(version: u32, p: usize, x: &mut i32, y: &mut i3
 // Whether the ring is light at a position.
 #[unsafe(no_mangle)]
 pub extern "C" fn lcr_sequence_light(version: u32, p: usize, light: &mut bool) -> u32
-    ensures answer { result ≡ mark_result (mark_answer version p) }
-    ensures light { light.new ≡ mark_after (mark_answer version p) light.old }
+    ensures answer { result ≡ result_of (mark_answer version p) }
+    ensures light { light.new ≡ left_of (mark_answer version p) light.old }
 {
     c_cells::cells::put_mark(lcr_core::doors::sequence_light(version, p), light)
 }

@@ -1,7 +1,9 @@
 // PGM files for C. Refusals of the reader, in order: 14, 15, 1, 2; of the writer: 1, 2, 3.
 ghost use Rattle.std.specs.Prelude.{◌≡◌, length};
-ghost use Rattle.pgm.specs.Doors.{file_answer, file_text, check_write, wrote, file_after};
-ghost use Rattle.c_pictures.specs.Files.{file_result, width_after, height_after, at_after, written_result, len_after};
+ghost use Rattle.laws.specs.Said.{left_of, result_of};
+ghost use Rattle.refusal.specs.Numbers.{answered};
+ghost use Rattle.pgm.specs.Doors.{file_answer, file_text, check_write, file_after};
+ghost use Rattle.c_pictures.specs.Files.{width_after, height_after, at_after};
 
 // The sides of a file's picture, and the place of its pixels.
 #[unsafe(no_mangle)]
@@ -11,7 +13,7 @@ pub extern "C" fn lcr_pgm_read(
     height: &mut usize,
     at: &mut usize,
 ) -> u32
-    ensures answer { result ≡ file_result (file_answer file.now) }
+    ensures answer { result ≡ result_of (file_answer file.now) }
     ensures width { width.new ≡ width_after (file_answer file.now) width.old }
     ensures height { height.new ≡ height_after (file_answer file.now) height.old }
     ensures at { at.new ≡ at_after (file_answer file.now) at.old }
@@ -29,10 +31,10 @@ pub extern "C" fn lcr_pgm_write(
     out: &mut [u8],
     len: &mut usize,
 ) -> u32
-    ensures answer { result ≡ written_result (wrote
+    ensures answer { result ≡ result_of (answered
         (check_write width height gray.now (length out.old))
         (length (file_text width height gray.now))) }
-    ensures len { len.new ≡ len_after (wrote
+    ensures len { len.new ≡ left_of (answered
         (check_write width height gray.now (length out.old))
         (length (file_text width height gray.now))) len.old }
     ensures out { out.new ≡ file_after

@@ -5,14 +5,12 @@ ghost use Rattle.laws.specs.Plane.{plane};
 ghost use Rattle.laws.specs.Said.{result_of};
 ghost use Rattle.labels.specs.Cells.{groups_of};
 ghost use Rattle.picture.specs.Door.{levels_after, labels_after, StackAfter};
-ghost use Rattle.finder.specs.Find.{check_find, trace_of, answer_by, find_said};
-ghost use Rattle.tag_list.specs.Tags.{tags_of, padded, tags_by, tags_said};
+ghost use Rattle.finder.specs.Find.{check_find, trace_of, answer_by};
+ghost use Rattle.tag_list.specs.Tags.{tags_of, padded, tags_by};
 ghost use Rattle.c_pictures.specs.Answers.{after_by};
 ghost use Rattle.c_rings.specs.Rings.{score_rows, ring_of, found_numbers, is_found};
 ghost use Rattle.c_rings.specs.Tags.{list_numbers};
 ghost use Rattle.region_outline.specs.Region.{need_of};
-
-use ring::door::Outcome;
 
 // The trace of a picture: how many regions it has, and what the finder looked at and found.
 #[unsafe(no_mangle)]
@@ -37,11 +35,11 @@ pub extern "C" fn lcr_find(
     fix: &mut [f64; 15],
     fallback: &mut [f64; 15],
 ) -> u32
-    ensures number { result ≡ result_of (find_said (answer_by (check_find width height (length gray.now)
+    ensures number { result ≡ result_of (answer_by (check_find width height (length gray.now)
         (length levels.old) (length labels.old)
         (length stack.old) (length points.old)
         (length straight.old) (length cand.old)
-        (length buf.old) most) gray.now width height most)) }
+        (length buf.old) most) gray.now width height most) }
     ensures levels { levels.new
         ≡ levels_after result gray.now width height levels.old }
     ensures labels { labels.new
@@ -80,18 +78,24 @@ pub extern "C" fn lcr_find(
         ≡ after_by result (ring_of (trace_of gray.now width height most).fallback)
         fallback.old }
 {
-    let r = finder::find(
+    match finder::find(
         gray, width, height, most, levels, labels, stack, points, straight, cand, buf,
-    );
-    let o = r.outcome;
-    let t = r.trace;
-    match o {
-        Outcome::Given => {
-            *regions = r.regions;
-            c_rings::put_trace(t, hull, found, quad, tried, scores, fix, fallback);
+    ) {
+        Ok(answer) => {
+            *regions = answer.regions;
+            c_rings::put_trace(
+                answer.trace,
+                hull,
+                found,
+                quad,
+                tried,
+                scores,
+                fix,
+                fallback,
+            );
             0
         }
-        Outcome::Refused(n) => n,
+        Err(r) => r.number(),
     }
 }
 
@@ -112,11 +116,11 @@ pub extern "C" fn lcr_tags(
     many: &mut usize,
     tags: &mut [f32; 44],
 ) -> u32
-    ensures number { result ≡ result_of (tags_said (tags_by (check_find width height (length gray.now)
+    ensures number { result ≡ result_of (tags_by (check_find width height (length gray.now)
         (length levels.old) (length labels.old)
         (length stack.old) (length points.old)
         (length straight.old) (length cand.old)
-        (length buf.old) most) gray.now width height most)) }
+        (length buf.old) most) gray.now width height most) }
     ensures levels { levels.new
         ≡ levels_after result gray.now width height levels.old }
     ensures labels { labels.new
@@ -137,18 +141,14 @@ pub extern "C" fn lcr_tags(
         ≡ after_by result (list_numbers (padded 4 (tags_of gray.now width height most)))
         tags.old }
 {
-    let r = tag_list::tags(
+    match tag_list::tags(
         gray, width, height, most, levels, labels, stack, points, straight, cand, buf,
-    );
-    let o = r.outcome;
-    let t = r.tags;
-    match o {
-        Outcome::Given => {
+    ) {
+        Ok(t) => {
             *many = t.many;
-            let list = t.list;
-            *tags = c_rings::tags::numbers(list);
+            *tags = c_rings::tags::numbers(t.list);
             0
         }
-        Outcome::Refused(n) => n,
+        Err(r) => r.number(),
     }
 }

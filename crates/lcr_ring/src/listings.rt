@@ -11,13 +11,14 @@ pub extern "C" fn lcr_listing(input: &[u8], text: &mut [u8; 512], len: &mut usiz
     ensures text { text.new ≡ after_by result (filled (text_of input.now)) text.old }
     ensures len { len.new ≡ after_by result (length (text_of input.now)) len.old }
 {
-    let no = tray::check(input);
-    if no != 0 {
-        return no;
+    match tray::check(input) {
+        Ok(_) => {
+            let p = traylist_text::listing(input);
+            let bytes = p.bytes;
+            *text = bytes;
+            *len = p.len;
+            0
+        }
+        Err(r) => r.number(),
     }
-    let p = traylist_text::listing(input);
-    let bytes = p.bytes;
-    *text = bytes;
-    *len = p.len;
-    0
 }

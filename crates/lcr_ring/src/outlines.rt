@@ -3,13 +3,9 @@
 ghost use Rattle.std.specs.Prelude.{◌≡◌, length};
 ghost use Rattle.laws.specs.Move.{box_at};
 ghost use Rattle.laws.specs.Said.{result_of, left_of};
-ghost use Rattle.hull.specs.Door.{hulled, hulled_said, vertices_after};
+ghost use Rattle.hull.specs.Door.{hulled, vertices_after};
 ghost use Rattle.hull.specs.Quad.{quad_floats, quad_said};
 ghost use Rattle.outline.specs.Door.{outline_answer, outline_after};
-ghost use Rattle.c_pictures.specs.Answers.{outline_result, points_after};
-
-use hull::Hulled;
-use hull::points::Corners;
 
 // The boundary points of a region's box, and how many there are.
 #[unsafe(no_mangle)]
@@ -27,10 +23,10 @@ pub extern "C" fn lcr_outline(
     out: &mut [f32],
     points: &mut usize,
 ) -> u32
-    ensures answer { result ≡ outline_result (outline_answer gray.now levels.now
+    ensures answer { result ≡ result_of (outline_answer gray.now levels.now
         labels.now want width height
         (box_at x0 y0 x1 y1) (length out.old)) }
-    ensures points { points.new ≡ points_after (outline_answer gray.now levels.now
+    ensures points { points.new ≡ left_of (outline_answer gray.now levels.now
         labels.now want width height
         (box_at x0 y0 x1 y1) (length out.old))
         points.old }
@@ -47,21 +43,15 @@ pub extern "C" fn lcr_outline(
 // The vertices of the hull of points, and how many there are. 3 where out has fewer numbers.
 #[unsafe(no_mangle)]
 pub extern "C" fn lcr_convex_hull(points: &[f32], out: &mut [f32], vertices: &mut usize) -> u32
-    ensures answer { result ≡ result_of (hulled_said (hulled points.now (length out.old))) }
+    ensures answer { result ≡ result_of (hulled points.now (length out.old)) }
     ensures vertices { vertices.new
-        ≡ left_of (hulled_said (hulled points.now (length out.old)))
+        ≡ left_of (hulled points.now (length out.old))
         vertices.old }
     ensures out { out.new
         ≡ vertices_after (hulled points.now (length out.old))
         points.now out.old }
 {
-    match hull::convex_hull(points, out) {
-        Hulled::Vertices(n) => {
-            *vertices = n;
-            0
-        }
-        Hulled::Refused(n) => n,
-    }
+    c_answers::put(hull::convex_hull(points, out), vertices)
 }
 
 // The quad of the vertices of a hull.
@@ -72,10 +62,10 @@ pub extern "C" fn lcr_quad(vertices: &[f32], quad: &mut [f32; 8]) -> u32
         ≡ left_of (quad_said (quad_floats vertices.now)) quad.old }
 {
     match hull::quad(vertices) {
-        Corners::Found(q) => {
+        Some(q) => {
             *quad = c_pictures::shapes::numbers(q);
             0
         }
-        Corners::NoQuad => 255,
+        None => c_answers::NONE,
     }
 }

@@ -1,4 +1,4 @@
-// The picture door for C. Refusals: 1, 2, 3, 4.
+// The picture door for C. Refusals: 1, 2, 3.
 ghost use Rattle.std.specs.Prelude.{◌≡◌, length};
 ghost use Rattle.laws.specs.Plane.{plane};
 ghost use Rattle.picture.specs.Door.{check_grids, levels_after, labels_after, StackAfter};
@@ -29,11 +29,11 @@ pub extern "C" fn lcr_picture(
         ≡ after_by result (region_numbers (kept_regions (plane width gray.now) width height))
         regions.old }
 {
-    let answer = picture::picture(gray, width, height, levels, labels, stack);
-    if answer.refused != 0 {
-        return answer.refused;
+    match picture::picture(gray, width, height, levels, labels, stack) {
+        Ok(kept) => {
+            *regions = c_pictures::kept::numbers(kept);
+            0
+        }
+        Err(r) => r.number(),
     }
-    let found = answer.regions;
-    *regions = c_pictures::kept::numbers(found);
-    0
 }

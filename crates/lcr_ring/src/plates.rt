@@ -2,7 +2,7 @@
 // reading then 11.
 ghost use Rattle.std.specs.Prelude.{◌≡◌};
 ghost use Rattle.laws.specs.Said.{result_of};
-ghost use Rattle.proof_ring.specs.Doors.{answer_said, draw_answer, pixels_after, read_answer, marks_after};
+ghost use Rattle.proof_ring.specs.Doors.{draw_answer, pixels_after, read_answer, marks_after};
 
 // The ring of a version drawn into a picture.
 #[unsafe(no_mangle)]
@@ -15,8 +15,8 @@ pub extern "C" fn lcr_draw_ring(
     width: usize,
     height: usize,
 ) -> u32
-    ensures answer { result ≡ result_of (answer_said (draw_answer version pitch corner gray.old
-        width height)) }
+    ensures answer { result ≡ result_of (draw_answer version pitch corner gray.old
+        width height) }
     ensures gray { gray.new
         ≡ pixels_after (draw_answer version pitch corner gray.old width height)
         version pitch corner reversed gray.old width height }
@@ -36,8 +36,8 @@ pub extern "C" fn lcr_read_ring(
     height: usize,
     marks: &mut [bool],
 ) -> u32
-    ensures answer { result ≡ result_of (answer_said (read_answer version pitch gray.now width height
-        marks.old)) }
+    ensures answer { result ≡ result_of (read_answer version pitch gray.now width height
+        marks.old) }
     ensures marks { marks.new
         ≡ marks_after (read_answer version pitch gray.now width height
         marks.old) version pitch gray.now width marks.old }

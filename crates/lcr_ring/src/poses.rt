@@ -1,15 +1,15 @@
 // Ring marks for C: the doors `classify` and `correlate`, refusals 8, then 11; one window's split,
 // refusals 9, then 10.
 ghost use Rattle.std.specs.Prelude.{◌≡◌};
-ghost use Rattle.marks.specs.Pose.{counts_of};
+ghost use Rattle.laws.specs.Said.{result_of};
 ghost use Rattle.marks.specs.Doors.{classify_answer, marks_after, split_answer, correlate_answer};
-ghost use Rattle.c_cells.specs.Poses.{classify_result, split_result, split_after_call, round_after, best_result};
+ghost use Rattle.c_cells.specs.Poses.{split_after_call, round_after};
 ghost use Rattle.c_cells.specs.Poses.{score_after, corner_after, reversed_after, agreements_after};
 
 // Light or dark at each position, from its luma.
 #[unsafe(no_mangle)]
 pub extern "C" fn lcr_classify(version: u32, lumas: &[f32], marks: &mut [bool]) -> u32
-    ensures answer { result ≡ classify_result (classify_answer version lumas.now marks.old) }
+    ensures answer { result ≡ result_of (classify_answer version lumas.now marks.old) }
     ensures marks { marks.new
         ≡ marks_after (classify_answer version lumas.now marks.old)
         lumas.now marks.old }
@@ -20,7 +20,7 @@ pub extern "C" fn lcr_classify(version: u32, lumas: &[f32], marks: &mut [bool]) 
 // The split of one window, and the round at which it has settled.
 #[unsafe(no_mangle)]
 pub extern "C" fn lcr_split(values: &[f32], split: &mut f32, round: &mut u32) -> u32
-    ensures answer { result ≡ split_result (split_answer values.now) }
+    ensures answer { result ≡ result_of (split_answer values.now) }
     ensures split { split.new ≡ split_after_call (split_answer values.now) split.old }
     ensures round { round.new ≡ round_after (split_answer values.now) round.old }
 {
@@ -37,7 +37,7 @@ pub extern "C" fn lcr_correlate(
     reversed: &mut bool,
     counts: &mut [u16; 8],
 ) -> u32
-    ensures answer { result ≡ best_result (correlate_answer version marks.now) }
+    ensures answer { result ≡ result_of (correlate_answer version marks.now) }
     ensures score { score.new
         ≡ score_after (correlate_answer version marks.now) score.old }
     ensures corner { corner.new
@@ -46,10 +46,8 @@ pub extern "C" fn lcr_correlate(
         ≡ reversed_after (correlate_answer version marks.now) reversed.old }
     ensures counts { counts.new
         ≡ agreements_after (correlate_answer version marks.now)
-        (counts_of version marks.now) counts.old }
+        counts.old }
 {
     let answer = marks::correlate::correlate(version, marks);
-    let best = answer.best;
-    let from = answer.counts;
-    c_cells::poses::put_best(best, from, score, corner, reversed, counts)
+    c_cells::poses::put_best(answer, score, corner, reversed, counts)
 }

@@ -2,12 +2,10 @@
 ghost use Rattle.std.specs.Prelude.{◌≡◌, length};
 ghost use Rattle.laws.specs.Lent.{UntouchedPast};
 ghost use Rattle.laws.specs.Said.{result_of};
-ghost use Rattle.ring.specs.Door.{answer_of, attempt_said};
+ghost use Rattle.ring.specs.Door.{answer_of};
 ghost use Rattle.ring.specs.Trace.{attempt_of};
 ghost use Rattle.c_pictures.specs.Answers.{after_by};
 ghost use Rattle.c_rings.specs.Rings.{score_rows, ring_of, found_numbers, is_found};
-
-use ring::door::Outcome;
 
 // One attempt at a ring from boundary points: its trace.
 #[unsafe(no_mangle)]
@@ -28,9 +26,9 @@ pub extern "C" fn lcr_attempt(
     fix: &mut [f64; 15],
     fallback: &mut [f64; 15],
 ) -> u32
-    ensures number { result ≡ result_of (attempt_said (answer_of gray.now width height
+    ensures number { result ≡ result_of (answer_of gray.now width height
         points.now most (length straight.old)
-        (length cand.old) (length buf.old))) }
+        (length cand.old) (length buf.old)) }
     ensures straight { UntouchedPast (after_by result (length points.now) 0)
         straight.old straight.new }
     ensures cand { UntouchedPast (after_by result (length points.now) 0)
@@ -59,14 +57,11 @@ pub extern "C" fn lcr_attempt(
         ≡ after_by result (ring_of (attempt_of gray.now width height
         points.now most).fallback) fallback.old }
 {
-    let r = ring::door::attempt(gray, width, height, points, most, straight, cand, buf);
-    let o = r.outcome;
-    let t = r.trace;
-    match o {
-        Outcome::Given => {
+    match ring::door::attempt(gray, width, height, points, most, straight, cand, buf) {
+        Ok(t) => {
             c_rings::put_trace(t, hull, found, quad, tried, scores, fix, fallback);
             0
         }
-        Outcome::Refused(n) => n,
+        Err(r) => r.number(),
     }
 }

@@ -7,6 +7,7 @@
 --   bow-at                                    the bow that the code makes
 --   fits-none, fits-two                       the ways of two fits
 use Rattle.std.proofs.Common.{◌≡◌, ℕ, ◌+◌, ◌-◌, ◌<◌, ◌≤◌, Bool, true, false, cond, ltb, List, [], ◌∷◌, sym, refl, ap, ◌∙◌, le-ltb, lt-ltb}
+use Rattle.std.specs.Prelude.{not, is_some, Option, Some, None}
 use lib.Ieee.{Float, binary32}
 use Rattle.laws.proofs.Steps.{on, done, from_zero}
 use Rattle.ieee.specs.Root.{sqrt}
@@ -17,13 +18,10 @@ use Rattle.fit.specs.F32.{◌⊖◌, ◌⊗◌, ◌⊘◌, whole_float, x_of, y_
 use Rattle.ieee.specs.Constants.{1f, 1d}
 use Rattle.lens.specs.Bow.{0d, inlier_of, row_added, sample_of, normal_on, normal_of, system_of, unknowns, solved_of, rest_of, square_in, rss_on, rss_of, positive_of, first_fit, bow_at, bow_by, bow_of, two_fits}
 use Rattle.lens.specs.declared.bow.Bow.{Bow}
-use Rattle.lens.specs.declared.bow.Bow.TheVariants.{Fit, NoFit}
 use Rattle.lens.specs.declared.bow.Normal.{Normal}
-use Rattle.lens.specs.declared.bow.Three.{Three}
-use Rattle.lens.specs.declared.bow.Three.TheVariants.{Solved, Singular}
 
 -- ---- one sample more
-module _ (prev : Bow) (t o : Float) (a : Normal) (b : Bool) (is : b ≡ inlier_of prev t o (t ⊗ (1f ⊖ t))) where
+module _ (prev : Option Bow) (t o : Float) (a : Normal) (b : Bool) (is : b ≡ inlier_of prev t o (t ⊗ (1f ⊖ t))) where
   abbrev g : Float
   g = t ⊗ (1f ⊖ t)
 
@@ -46,7 +44,7 @@ pub row-many : (a r : Normal) (t g o : Float) → r ≡ row_added a t g o → r.
 unfolding row_added
 row-many a r t g o q = ap (λ (r : Normal). r.n) q
 
-module _ (s : List Float) (prev : Bow) where
+module _ (s : List Float) (prev : Option Bow) where
   abbrev normal_step : ℕ → Normal → Normal
   normal_step k a = sample_of prev (x_of s k) (y_of s k) a
 
@@ -85,74 +83,84 @@ module _ (s : List Float) (all : Bool) (f0 f1 f2 : Float) where
 
 -- ---- three unknowns
 module _ (a : Normal) (v0 v1 v2 : Float) (r : Outcome) (is : r ≡ forward_on 3 3 0 (system_of a v0 v1 v2)) where
-  abbrev three : List Float → Three
-  three x = Solved (number_at x 0) (number_at x 1) (number_at x 2)
-
   abbrev left : List Float
   left = back_on r.left 3 3 (0d ∷ 0d ∷ 0d ∷ [])
 
-  solved-by : (t : Bool) → r.ok ≡ t → cond t (three left) Singular ≡ solved_of a v0 v1 v2
+  solved-by : (t : Bool) → r.ok ≡ t → cond t (Some left) None ≡ solved_of a v0 v1 v2
   unfolding solved_of
-  solved-by t h = sym (ap (λ (t : Bool). cond t (three left) Singular) h) ∙ ap unknowns is
+  solved-by t h = sym (ap (λ (t : Bool). cond t (Some left) None) h) ∙ ap unknowns is
 
-  pub solved-none : r.ok ≡ false → Singular ≡ solved_of a v0 v1 v2
+  pub solved-none : r.ok ≡ false → None ≡ solved_of a v0 v1 v2
   solved-none h = solved-by false h
 
-  pub solved-some : (x : List Float) → r.ok ≡ true → x ≡ left → three x ≡ solved_of a v0 v1 v2
-  solved-some x h ex = ap three ex ∙ solved-by true h
+  pub solved-some : (x : List Float) → r.ok ≡ true → x ≡ left → Some x ≡ solved_of a v0 v1 v2
+  solved-some x h ex = ap (λ (x : List Float). Some x) ex ∙ solved-by true h
 
 -- ---- the ways of a fit
-module _ (s : List Float) (prev : Bow) (a : Normal) (is : a ≡ normal_of s prev) where
-  abbrev last : Normal → Three
+module _ (s : List Float) (prev : Option Bow) (a : Normal) (is : a ≡ normal_of s prev) where
+  abbrev last : Normal → Option (List Float)
   last a = solved_of a 0d 0d 1d
 
-  abbrev bow_from : Normal → Bow
+  abbrev bow_from : Normal → Option Bow
   bow_from a = bow_by s prev a.n (solved_of a a.o a.to a.go) (last a)
 
-  many_by : (t : Bool) → ltb a.n 8 ≡ t → cond t NoFit (bow_from a) ≡ bow_of s prev
+  many_by : (t : Bool) → ltb a.n 8 ≡ t → cond t None (bow_from a) ≡ bow_of s prev
   unfolding bow_of
   many_by t h =
-      ap (λ (t : Bool). cond t NoFit (bow_from a)) (sym h) ∙ ap (λ (a : Normal). cond (ltb a.n 8) NoFit (bow_from a)) is
+      ap (λ (t : Bool). cond t None (bow_from a)) (sym h) ∙ ap (λ (a : Normal). cond (ltb a.n 8) None (bow_from a)) is
 
-  pub bow-few : a.n < 8 → NoFit ≡ bow_of s prev
+  pub bow-few : a.n < 8 → None ≡ bow_of s prev
   bow-few h = many_by true (lt-ltb a.n 8 h)
 
-  module _ (many : 8 ≤ a.n) (p : Three) (ep : p ≡ solved_of a a.o a.to a.go) where
+  module _ (many : 8 ≤ a.n) (p : Option (List Float)) (ep : p ≡ solved_of a a.o a.to a.go) where
     bow-is : bow_by s prev a.n p (last a) ≡ bow_of s prev
-    bow-is = ap (λ (p : Three). bow_by s prev a.n p (last a)) ep ∙ many_by false (le-ltb a.n 8 many)
+    bow-is = ap (λ (p : Option (List Float)). bow_by s prev a.n p (last a)) ep ∙ many_by false (le-ltb a.n 8 many)
 
-    pub bow-none : p ≡ Singular → NoFit ≡ bow_of s prev
+    pub bow-none : p ≡ None → None ≡ bow_of s prev
     unfolding bow_by
-    bow-none h = sym (ap (λ (p : Three). bow_by s prev a.n p (last a)) h) ∙ bow-is
+    bow-none h = sym (ap (λ (p : Option (List Float)). bow_by s prev a.n p (last a)) h) ∙ bow-is
 
-    module _ {x y z : Float} (hp : p ≡ Solved x y z) (q : Three) (eq : q ≡ last a) where
-      bow-both : bow_by s prev a.n (Solved x y z) q ≡ bow_of s prev
+    module _ {x : List Float} (hp : p ≡ Some x) (q : Option (List Float)) (eq : q ≡ last a) where
+      bow-both : bow_by s prev a.n (Some x) q ≡ bow_of s prev
       bow-both =
-          ap (bow_by s prev a.n (Solved x y z)) eq ∙ sym (ap (λ (p : Three). bow_by s prev a.n p (last a)) hp) ∙ bow-is
+          ap (bow_by s prev a.n (Some x)) eq ∙ sym (ap (λ (p : Option (List Float)). bow_by s prev a.n p (last a)) hp) ∙ bow-is
 
-      pub bow-none-2 : q ≡ Singular → NoFit ≡ bow_of s prev
+      pub bow-none-2 : q ≡ None → None ≡ bow_of s prev
       unfolding bow_by
-      bow-none-2 h = sym (ap (bow_by s prev a.n (Solved x y z)) h) ∙ bow-both
+      bow-none-2 h = sym (ap (bow_by s prev a.n (Some x)) h) ∙ bow-both
 
-      pub bow-some : {u v i : Float} → q ≡ Solved u v i → (r : Bow) → r ≡ bow_at s prev a.n (narrow x) (narrow y) (narrow z) i
-          → r ≡ bow_of s prev
+      pub bow-some : {i : List Float} → q ≡ Some i → (r : Bow)
+          → r ≡ bow_at s prev a.n (narrow (number_at x 0)) (narrow (number_at x 1)) (narrow (number_at x 2)) (number_at i 2)
+          → Some r ≡ bow_of s prev
       unfolding bow_by
-      bow-some h r e = e ∙ sym (ap (bow_by s prev a.n (Solved x y z)) h) ∙ bow-both
+      bow-some h r e = ap (λ (b : Bow). Some b) e ∙ sym (ap (bow_by s prev a.n (Some x)) h) ∙ bow-both
 
-pub bow-at : (s : List Float) (prev : Bow) (n : ℕ) (x y z i f0 f1 f2 w m p e : Float) (b : Bool)
-    → f0 ≡ narrow x → f1 ≡ narrow y → f2 ≡ narrow z → b ≡ first_fit prev → w ≡ rss_of s b f0 f1 f2 → p ≡ positive_of i → m ≡ narrow p
-    → e ≡ sqrt binary32 (w ⊘ whole_float (n - 3) ⊗ m) → Fit f0 f1 f2 e ≡ bow_at s prev n (narrow x) (narrow y) (narrow z) i
-bow-at s prev n x y z i f0 f1 f2 w m p e b ex ey ez eb ew ep em ee = cc
+-- there is no bow before
+pub is-first : (prev : Option Bow) (b : Bool) → is_some prev ≡ not b → b ≡ first_fit prev
+unfolding first_fit
+is-first (Some p) true h = absurd (let z : ⊥ = cc in z)
+is-first (Some p) false h = refl
+is-first None true h = refl
+is-first None false h = absurd (let z : ⊥ = cc in z)
+
+pub bow-at : (s : List Float) (prev : Option Bow) (n : ℕ) (x y z i f0 f1 f2 w m p e : Float) (b : Bool)
+    → f0 ≡ narrow x → f1 ≡ narrow y → f2 ≡ narrow z → is_some prev ≡ not b → w ≡ rss_of s b f0 f1 f2 → p ≡ positive_of i → m ≡ narrow p
+    → e ≡ sqrt binary32 (w ⊘ whole_float (n - 3) ⊗ m) → record { c0 = f0; c1 = f1; a = f2; error = e } ≡ bow_at s prev n (narrow x) (narrow y) (narrow z) i
+bow-at s prev n x y z i f0 f1 f2 w m p e b ex ey ez eb ew ep em ee = let first = is-first prev b eb in cc
 
 -- ---- two fits
-module _ (s : List Float) (first : Bow) (b : Bool) (is : first ≡ bow_of s NoFit) (eb : b ≡ first_fit first) where
-  fits_by : (t : Bool) → b ≡ t → cond t NoFit (bow_of s first) ≡ two_fits s
+module _ (s : List Float) (first : Option Bow) (is : first ≡ bow_of s None) where
+  abbrev refit : Option Bow → Option Bow
+  refit f = cond (first_fit f) None (bow_of s f)
+
+  fits-is : refit first ≡ two_fits s
   unfolding two_fits
-  fits_by t h =
-      ap (λ (t : Bool). cond t NoFit (bow_of s first)) (sym h ∙ eb) ∙ ap (λ (f : Bow). cond (first_fit f) NoFit (bow_of s f)) is
+  fits-is = ap refit is
 
-  pub fits-none : b ≡ true → NoFit ≡ two_fits s
-  fits-none h = fits_by true h
+  pub fits-none : first ≡ None → None ≡ two_fits s
+  unfolding first_fit
+  fits-none h = sym (ap refit h) ∙ fits-is
 
-  pub fits-two : (r : Bow) → b ≡ false → r ≡ bow_of s first → r ≡ two_fits s
-  fits-two r h q = q ∙ fits_by false h
+  pub fits-two : {b : Bow} (r : Option Bow) → first ≡ Some b → r ≡ bow_of s (Some b) → r ≡ two_fits s
+  unfolding first_fit
+  fits-two r h q = q ∙ sym (ap refit h) ∙ fits-is

@@ -4,6 +4,8 @@
 --   hull-part, hull-past   the beginning of the list that the hull was put into, and its rest
 --   quad-values            a quad is the quad of its numbers
 use Rattle.std.proofs.Common.{◌≡◌, ℕ, ◌*◌, ◌≤◌, List, length, take, drop, sym, refl, ap, ◌∙◌, arith, take_at}
+use Rattle.std.specs.Prelude.{Option, Some, None}
+use Rattle.hull.specs.declared.points.Quad.{Quad}
 use lib.Ieee.{Float}
 use Rattle.laws.specs.Lists.{range}
 use Rattle.hull.proofs.Walks.{points-long, walk-few}
@@ -11,8 +13,6 @@ use Rattle.whole.specs.Walk.{hull_with, lowest_with}
 use Rattle.hull.specs.Points.{many}
 use Rattle.hull.specs.Hull.{hull_tests, hull_of, hull_floats}
 use Rattle.hull.specs.Quad.{values_of, quad_floats}
-use Rattle.hull.specs.declared.points.Corners.{Corners}
-use Rattle.hull.specs.declared.points.Corners.TheVariants.{Found, NoQuad}
 use Rattle.laws.proofs.Past.{past-front}
 use Rattle.laws.specs.Lent.{UntouchedPast, laid}
 use Rattle.lens.specs.Estimate.{quad_from, hull_quad}
@@ -40,10 +40,10 @@ module _ (p old new : List Float) (h : ℕ) (eh : h ≡ length (hull_of p (many 
       past-front (length p) (length (hull_floats p)) (hull_floats p) old (omega arith) (omega arith) refl en
 
 -- ---- the quad
-pub quad-values : (r : Corners) → quad_from (values_of r) ≡ r
+pub quad-values : (r : Option Quad) → quad_from (values_of r) ≡ r
 unfolding values_of
-quad-values (Found q) = refl
-quad-values NoQuad = refl
+quad-values (Some q) = refl
+quad-values None = refl
 
-pub quad-by : (p part : List Float) (r : Corners) → part ≡ hull_floats p → values_of r ≡ quad_floats part → r ≡ hull_quad p
+pub quad-by : (p part : List Float) (r : Option Quad) → part ≡ hull_floats p → values_of r ≡ quad_floats part → r ≡ hull_quad p
 quad-by p part r e h = sym (quad-values r) ∙ ap quad_from (h ∙ ap quad_floats e)

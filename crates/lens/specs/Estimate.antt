@@ -1,6 +1,6 @@
 -- The lens that a ring's four edges tell of, in two passes, by rules 21 to 25 and ring.rs in
 -- `estimate_lens`. Definitions only. Assumes nothing.
-use Rattle.std.specs.Prelude.{Bool, cond, not, ◌&&◌, ◌||◌, List, [], ◌∷◌, Float}
+use Rattle.std.specs.Prelude.{Bool, cond, not, ◌&&◌, ◌||◌, List, [], ◌∷◌, Float, Option, Some, None}
 use Rattle.std.specs.Float.Ieee.{lt, eq}
 use Rattle.ieee.specs.Ops.{abs, max, finite}
 use Rattle.ieee.specs.Constants.{0f, 0·004, 1f}
@@ -9,8 +9,6 @@ use Rattle.hull.specs.Hull.{hull_floats}
 use Rattle.hull.specs.Quad.{quad_floats}
 use Rattle.hull.specs.declared.points.Point.{Point}
 use Rattle.hull.specs.declared.points.Quad.{Quad}
-use Rattle.hull.specs.declared.points.Corners.{Corners}
-use Rattle.hull.specs.declared.points.Corners.TheVariants.{Found, NoQuad}
 use Rattle.fit.specs.F32.{◌⊕◌, ◌⊖◌, ◌⊗◌, ◌⊘◌, 0·25, 3f}
 use Rattle.fit.specs.Line.{point_of}
 use Rattle.fit.specs.Corner.{d2_of}
@@ -18,30 +16,25 @@ use Rattle.lens.specs.Straight.{straight_of}
 use Rattle.lens.specs.Measure.{measure_of}
 use Rattle.lens.specs.declared.straight.Lens.{Lens}
 use Rattle.lens.specs.declared.measure.Slope.{Slope}
-use Rattle.lens.specs.declared.measure.Measure.{Measure}
-use Rattle.lens.specs.declared.measure.Measure.TheVariants.{Bent, Unmeasured}
 use Rattle.lens.specs.declared.estimate.Slopes.{Slopes}
-use Rattle.lens.specs.declared.estimate.Measures.{Measures}
-use Rattle.lens.specs.declared.estimate.Measures.TheVariants.{All, Missing}
 use Rattle.lens.specs.declared.estimate.Pass.{Pass}
-use Rattle.lens.specs.declared.estimate.Pass.TheVariants.{On, NoLens}
 
 -- ---- four edges
 -- The four measures, or none where one is none.
-unfoldable pub measures_of : Measure → Measure → Measure → Measure → Measures
-measures_of (Bent a) (Bent b) (Bent c) (Bent d) = All record { a = a; b = b; c = c; d = d }
-measures_of (Bent a) (Bent b) (Bent c) Unmeasured = Missing
-measures_of (Bent a) (Bent b) Unmeasured d = Missing
-measures_of (Bent a) Unmeasured c d = Missing
-measures_of Unmeasured b c d = Missing
+unfoldable pub measures_of : Option Slope → Option Slope → Option Slope → Option Slope → Option Slopes
+measures_of (Some a) (Some b) (Some c) (Some d) = Some record { a = a; b = b; c = c; d = d }
+measures_of (Some a) (Some b) (Some c) None = None
+measures_of (Some a) (Some b) None d = None
+measures_of (Some a) None c d = None
+measures_of None b c d = None
 
 -- The measure of an edge, or none where that of the edge before it is none.
-abbrev pub after_measure : Measure → Measure → Measure
-after_measure (Bent f) measure = measure
-after_measure Unmeasured measure = Unmeasured
+abbrev pub after_measure : Option Slope → Option Slope → Option Slope
+after_measure (Some f) measure = measure
+after_measure None measure = None
 
 -- The four measures of a quad.
-abbrev pub quad_measures : List Float → Quad → Point → Measures
+abbrev pub quad_measures : List Float → Quad → Point → Option Slopes
 quad_measures s q m =
     measures_of (measure_of s q.a q.b m) (measure_of s q.b q.c m) (measure_of s q.c q.d m) (measure_of s q.d q.a m)
 
@@ -79,31 +72,35 @@ corner_reach q m reach =
     (d2_of q.d.x q.d.y m)
 
 -- ---- a pass
+-- What a pass leaves: a coefficient and a reach.
+abbrev pub pass_at : Float → Float → Pass
+pass_at kappa reach = record { kappa = kappa; reach = reach }
+
 -- κ with the mean added, or none where the weights are 0 or not finite, or an edge disagrees. Agreement is by the total |κ + step|.
-unfoldable pub slope_step : Slopes → Float → Float → Pass
+unfoldable pub slope_step : Slopes → Float → Float → Option Pass
 slope_step t kappa reach =
-    cond (eq (weights t) 0f || not (finite (weights t))) NoLens
-    (cond (all_agree (mean_slope t) (abs (kappa ⊕ mean_slope t)) t) (On (kappa ⊕ mean_slope t) reach) NoLens)
+    cond (eq (weights t) 0f || not (finite (weights t))) None
+    (cond (all_agree (mean_slope t) (abs (kappa ⊕ mean_slope t)) t) (Some (pass_at (kappa ⊕ mean_slope t) reach)) None)
 
 -- None without four measures.
-unfoldable pub step_by : Measures → Float → Float → Pass
-step_by (All t) kappa reach = slope_step t kappa reach
-step_by Missing kappa reach = NoLens
+unfoldable pub step_by : Option Slopes → Float → Float → Option Pass
+step_by (Some t) kappa reach = slope_step t kappa reach
+step_by None kappa reach = None
 
 -- A pass over points with their quad: none without a quad. `reach` is the greatest over both passes.
-unfoldable pub lens_pass : List Float → Corners → Point → Float → Float → Pass
-lens_pass s (Found q) m kappa reach = step_by (quad_measures s q m) kappa (corner_reach q m reach)
-lens_pass s NoQuad m kappa reach = NoLens
+unfoldable pub lens_pass : List Float → Option Quad → Point → Float → Float → Option Pass
+lens_pass s (Some q) m kappa reach = step_by (quad_measures s q m) kappa (corner_reach q m reach)
+lens_pass s None m kappa reach = None
 
 -- ---- the estimate
 -- The quad of the eight numbers of its corners; none of no numbers.
-abbrev pub quad_from : List Float → Corners
-quad_from [] = NoQuad
+abbrev pub quad_from : List Float → Option Quad
+quad_from [] = None
 quad_from (x ∷ l) =
-    Found record { a = point_of x (number_at l 0); b = point_of (number_at l 1) (number_at l 2); c = point_of (number_at l 3) (number_at l 4); d = point_of (number_at l 5) (number_at l 6) }
+    Some record { a = point_of x (number_at l 0); b = point_of (number_at l 1) (number_at l 2); c = point_of (number_at l 3) (number_at l 4); d = point_of (number_at l 5) (number_at l 6) }
 
 -- The quad of the points' hull.
-abbrev pub hull_quad : List Float → Corners
+abbrev pub hull_quad : List Float → Option Quad
 hull_quad s = quad_from (quad_floats (hull_floats s))
 
 -- The lens about m of a coefficient.
@@ -112,17 +109,17 @@ lens_at m k = record { x = m.x; y = m.y; k = k }
 
 -- The second pass: over the points straightened by the first one's κ and their quad; over the points and quad as they are where that κ
 -- is 0. A κ that is a NaN leaves no quad, so it ends without a lens.
-unfoldable pub second_of : List Float → Corners → Point → Pass → Pass
-second_of s raw m (On k reach) =
-    let straight = straight_of (lens_at m k) s in
-    cond (eq k 0f) (lens_pass s raw m k reach) (lens_pass straight (hull_quad straight) m k reach)
-second_of s raw m NoLens = NoLens
+unfoldable pub second_of : List Float → Option Quad → Point → Option Pass → Option Pass
+second_of s raw m (Some p) =
+    let straight = straight_of (lens_at m p.kappa) s in
+    cond (eq p.kappa 0f) (lens_pass s raw m p.kappa p.reach) (lens_pass straight (hull_quad straight) m p.kappa p.reach)
+second_of s raw m None = None
 
 -- The lens of the last pass: κ = 0 without one, or where |κ·reach| is below 0.004.
-unfoldable pub lens_end : Point → Pass → Lens
-lens_end m (On k reach) = cond (lt (abs (k ⊗ reach)) 0·004) (lens_at m 0f) (lens_at m k)
-lens_end m NoLens = lens_at m 0f
+unfoldable pub lens_end : Point → Option Pass → Lens
+lens_end m (Some p) = cond (lt (abs (p.kappa ⊗ p.reach)) 0·004) (lens_at m 0f) (lens_at m p.kappa)
+lens_end m None = lens_at m 0f
 
 -- The lens about m that the points and their quad tell of; κ = 0 where they tell of none.
-unfoldable pub lens_of : List Float → Corners → Point → Lens
+unfoldable pub lens_of : List Float → Option Quad → Point → Lens
 lens_of s raw m = lens_end m (second_of s raw m (lens_pass s raw m 0f 0f))

@@ -1,5 +1,5 @@
 -- The coefficient of a lens that one edge tells of, with its standard error, as ring.rs measures it in `estimate_lens` for rules 21 to 25. Definitions only. Assumes nothing.
-use Rattle.std.specs.Prelude.{Bool, cond, ◌&&◌, List, Float}
+use Rattle.std.specs.Prelude.{Bool, cond, ◌&&◌, List, Float, Option, Some, None}
 use Rattle.std.specs.Float.Ieee.{lt, le, neg}
 use Rattle.ieee.specs.Ops.{abs, max}
 use Rattle.ieee.specs.Constants.{0f, 0·05, 0·1, 0·3, 0·9}
@@ -11,10 +11,8 @@ use Rattle.fit.specs.Corner.{edge_from}
 use Rattle.fit.specs.declared.line.Edge.{Edge}
 use Rattle.lens.specs.Bow.{two_fits}
 use Rattle.lens.specs.declared.bow.Bow.{Bow}
-use Rattle.lens.specs.declared.bow.Bow.TheVariants.{Fit, NoFit}
 use Rattle.lens.specs.declared.measure.Side.{Side}
-use Rattle.lens.specs.declared.measure.Measure.{Measure}
-use Rattle.lens.specs.declared.measure.Measure.TheVariants.{Bent, Unmeasured}
+use Rattle.lens.specs.declared.measure.Slope.{Slope}
 
 -- How far an edge's line is from the centre m, by its normal (uy, −ux): below 0 where the centre is on that side.
 abbrev pub height_over : Edge → Point → Float
@@ -48,17 +46,17 @@ samples_of e d s = points_by (sample_rule e d) s
 
 -- κ = a / (h·L²) of a bow a, and its standard error, at least the least positive f32 of full precision. An edge through the centre has
 -- h = 0: its κ is infinite or a NaN, and where its error is 0 too, 0 / 0 counts as that least one.
-unfoldable pub bent_of : Edge → Side → Bow → Measure
-bent_of e d (Fit c0 c1 a err) =
+unfoldable pub bent_of : Edge → Side → Option Bow → Option Slope
+bent_of e d (Some b) =
     let w = abs d.h ⊗ e.len ⊗ e.len in
-    Bent record { k = a ⊘ w; se = max (err ⊘ w) least_normal }
-bent_of e d NoFit = Unmeasured
+    Some record { k = b.a ⊘ w; se = max (b.error ⊘ w) least_normal }
+bent_of e d None = None
 
 -- The measure of the edge from a to b: none under 16, with fewer samples than 0.3 of its length, or without a bow.
-unfoldable pub measure_of : List Float → Point → Point → Point → Measure
+unfoldable pub measure_of : List Float → Point → Point → Point → Option Slope
 measure_of s a b m =
     let e = edge_from a b in
     let d = edge_side e m in
     let p = samples_of e d s in
-    cond (lt e.len 16f) Unmeasured
-    (cond (lt (whole_float (many p)) (0·3 ⊗ e.len)) Unmeasured (bent_of e d (two_fits p)))
+    cond (lt e.len 16f) None
+    (cond (lt (whole_float (many p)) (0·3 ⊗ e.len)) None (bent_of e d (two_fits p)))

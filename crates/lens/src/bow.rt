@@ -2,13 +2,15 @@
 // far along the edge, as a fraction of its length, and how far outward, in pixels.
 ghost use Rattle.std.specs.Prelude.{◌≡◌, ◌+◌, ◌<◌, ◌≤◌, length};
 ghost use Rattle.lens.specs.Bow.{inlier_of, row_added, sample_of, normal_of, solved_of, rest_of};
-ghost use Rattle.lens.specs.Bow.{square_in, rss_of, positive_of, first_fit, bow_of, two_fits};
+ghost use Rattle.lens.specs.Bow.{square_in, rss_of, positive_of, bow_of, two_fits};
 
-// A bow c0 + c1·t + a·t·(1 − t) in pixels, with the standard error of a: c0 c1 a error; or none.
+// A bow c0 + c1·t + a·t·(1 − t) in pixels, with the standard error of a.
 #[derive(Clone, Copy)]
-pub enum Bow {
-    Fit(f32, f32, f32, f32),
-    NoFit,
+pub struct Bow {
+    pub c0: f32,
+    pub c1: f32,
+    pub a: f32,
+    pub error: f32,
 }
 
 // The normal equations of a bow: how many samples count, the sums of the products of 1, t and
@@ -27,21 +29,14 @@ pub struct Normal {
     pub go: f64,
 }
 
-// Three unknowns, or none.
-#[derive(Drop)]
-pub enum Three {
-    Solved(f64, f64, f64),
-    Singular,
-}
-
 // Whether a sample counts: within 2 of the bow before, where there is one.
-fn inlier(prev: Bow, t: f32, o: f32, g: f32) -> bool
+fn inlier(prev: Option<Bow>, t: f32, o: f32, g: f32) -> bool
     ensures { result ≡ inlier_of prev t o g }
 {
-    let Bow::Fit(c0, c1, a, _) = prev else {
+    let Some(b) = prev else {
         return true;
     };
-    !(ieee::abs32(o - c0 - c1 * t - a * g) > 2.0)
+    !(ieee::abs32(o - b.c0 - b.c1 * t - b.a * g) > 2.0)
 }
 
 // One more row 1, t, g and its right side o.
@@ -64,7 +59,7 @@ fn add_row(a: Normal, t: f64, g: f64, o: f64) -> Normal
 }
 
 // One more sample, where it counts.
-fn add_sample(a: Normal, prev: Bow, t: f32, o: f32) -> Normal
+fn add_sample(a: Normal, prev: Option<Bow>, t: f32, o: f32) -> Normal
     requires { a.n < 32768 }
     ensures { (result ≡ sample_of prev t o a) × (result.n ≤ a.n + 1) }
 {
@@ -81,7 +76,7 @@ fn add_sample(a: Normal, prev: Bow, t: f32, o: f32) -> Normal
 }
 
 // The normal equations of the samples.
-fn normal_of(s: &[f32], prev: Bow) -> Normal
+fn normal_of(s: &[f32], prev: Option<Bow>) -> Normal
     requires { length s.now ≤ 32768 }
     ensures { (result ≡ normal_of s.now prev) × (result.n ≤ 16384) }
 {
@@ -98,16 +93,14 @@ fn normal_of(s: &[f32], prev: Bow) -> Normal
         to: 0.0,
         go: 0.0,
     };
-    let mut k = 0usize;
-    while k < n {
+    for k in 0..n {
         a = add_sample(a, prev, s[2 * k], s[2 * k + 1]);
-        k += 1;
     }
     a
 }
 
-// The unknowns of three equations with a right side.
-fn solve3(a: Normal, v0: f64, v1: f64, v2: f64) -> Three
+// The unknowns of three equations with a right side, or none.
+fn solve3(a: Normal, v0: f64, v1: f64, v2: f64) -> Option<[f64; 3]>
     ensures { result ≡ solved_of a v0 v1 v2 }
 {
     let mut m = [a.one, a.t, a.g, a.t, a.tt, a.tg, a.g, a.tg, a.gg];
@@ -115,9 +108,9 @@ fn solve3(a: Normal, v0: f64, v1: f64, v2: f64) -> Three
     if math::elimination::forward(&mut m, &mut v, 3) {
         let mut x = [0.0, 0.0, 0.0];
         math::elimination::back(&m, &v, &mut x, 3);
-        return Three::Solved(x[0], x[1], x[2]);
+        return Some(x);
     }
-    Three::Singular
+    None
 }
 
 // How far a sample is off a bow.
@@ -146,10 +139,8 @@ fn rss(s: &[f32], all: bool, f0: f32, f1: f32, f2: f32) -> f32
 {
     let n = s.len() / 2;
     let mut sum = 0.0f32;
-    let mut k = 0usize;
-    while k < n {
+    for k in 0..n {
         sum = square_in(all, sum, rest(f0, f1, f2, s[2 * k], s[2 * k + 1]));
-        k += 1;
     }
     sum
 }
@@ -164,48 +155,36 @@ fn positive(x: f64) -> f64
     0.0
 }
 
-// Whether there is no bow before.
-fn first_fit(prev: Bow) -> bool
-    ensures { result ≡ first_fit prev }
-{
-    let Bow::Fit(_, _, _, _) = prev else {
-        return true;
-    };
-    false
-}
-
-// The bow that fits the samples best, of those near the bow before, where there is one.
-pub fn bow_fit(s: &[f32], prev: Bow) -> Bow
+// The bow that fits the samples best, of those near the bow before, where there is one; or none.
+pub fn bow_fit(s: &[f32], prev: Option<Bow>) -> Option<Bow>
     requires { length s.now ≤ 32768 }
     ensures { result ≡ bow_of s.now prev }
 {
     let a = normal_of(s, prev);
     if a.n < 8 {
-        return Bow::NoFit;
+        return None;
     }
-    let Three::Solved(x0, x1, x2) = solve3(a, a.o, a.to, a.go) else {
-        return Bow::NoFit;
-    };
-    let Three::Solved(_, _, i2) = solve3(a, 0.0, 0.0, 1.0) else {
-        return Bow::NoFit;
-    };
-    let f0 = ieee::narrowed(x0);
-    let f1 = ieee::narrowed(x1);
-    let f2 = ieee::narrowed(x2);
-    let sum = rss(s, first_fit(prev), f0, f1, f2);
+    let x = solve3(a, a.o, a.to, a.go)?;
+    let inverse = solve3(a, 0.0, 0.0, 1.0)?;
+    let f0 = ieee::narrowed(x[0]);
+    let f1 = ieee::narrowed(x[1]);
+    let f2 = ieee::narrowed(x[2]);
+    let sum = rss(s, prev.is_none(), f0, f1, f2);
     let n = (a.n - 3) as f32;
-    let var = sum / n * ieee::narrowed(positive(i2));
-    Bow::Fit(f0, f1, f2, ieee::root(var))
+    let var = sum / n * ieee::narrowed(positive(inverse[2]));
+    Some(Bow {
+        c0: f0,
+        c1: f1,
+        a: f2,
+        error: ieee::root(var),
+    })
 }
 
 // The bow in two fits: of all samples, then of those near the first.
-pub(crate) fn two_fits(s: &[f32]) -> Bow
+pub(crate) fn two_fits(s: &[f32]) -> Option<Bow>
     requires { length s.now ≤ 32768 }
     ensures { result ≡ two_fits s.now }
 {
-    let first = bow_fit(s, Bow::NoFit);
-    if first_fit(first) {
-        return Bow::NoFit;
-    }
-    bow_fit(s, first)
+    let first = bow_fit(s, None)?;
+    bow_fit(s, Some(first))
 }

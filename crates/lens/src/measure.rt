@@ -27,13 +27,6 @@ pub struct Slope {
     pub se: f32,
 }
 
-// What an edge tells of the lens, or nothing.
-#[derive(Clone, Copy)]
-pub enum Measure {
-    Bent(Slope),
-    Unmeasured,
-}
-
 // The outward side of an edge.
 fn side_of(e: Edge, m: Point) -> Side
     ensures { result ≡ edge_side e m }
@@ -81,32 +74,34 @@ fn samples(s: &[f32], e: Edge, d: Side, buf: &mut [f32]) -> usize
 {
     let n = s.len() / 2;
     let mut m = 0usize;
-    let mut k = 0usize;
-    while k < n {
+    for k in 0..n {
         let t = fit::middle::along_edge(e, s[2 * k], s[2 * k + 1]);
         let o = outward(e, d, s[2 * k], s[2 * k + 1]);
         m = fit::middle::put(buf, m, bow_near(e, t, o), t, o);
-        k += 1;
     }
     m
 }
 
-// What a bow tells of the lens.
-fn bent(e: Edge, d: Side, bow: Bow) -> Measure
+// What a bow tells of the lens; nothing without one.
+fn bent(e: Edge, d: Side, bow: Option<Bow>) -> Option<Slope>
     ensures { result ≡ bent_of e d bow }
 {
-    let Bow::Fit(_, _, a, err) = bow else {
-        return Measure::Unmeasured;
-    };
+    let b = bow?;
     let w = ieee::abs32(d.h) * e.len * e.len;
-    Measure::Bent(Slope {
-        k: a / w,
-        se: ieee::max32(err / w, 1.1754944e-38),
+    Some(Slope {
+        k: b.a / w,
+        se: ieee::max32(b.error / w, 1.1754944e-38),
     })
 }
 
-// What the edge from a to b tells of a lens about m.
-pub(crate) fn measure_edge(s: &[f32], a: Point, b: Point, m: Point, buf: &mut [f32]) -> Measure
+// What the edge from a to b tells of a lens about m, or nothing.
+pub(crate) fn measure_edge(
+    s: &[f32],
+    a: Point,
+    b: Point,
+    m: Point,
+    buf: &mut [f32],
+) -> Option<Slope>
     requires s_in_bounds { length s.now ≤ length buf.old }
     requires s_len_bound { length s.now ≤ 32768 }
     ensures answer { result ≡ measure_of s.now a b m }
@@ -115,13 +110,13 @@ pub(crate) fn measure_edge(s: &[f32], a: Point, b: Point, m: Point, buf: &mut [f
 {
     let e = fit::corners::edge_of(a, b);
     if e.len < 16.0 {
-        return Measure::Unmeasured;
+        return None;
     }
     let d = side_of(e, m);
     let r = samples(s, e, d, buf);
     let many = r as f32;
     if many < 0.3 * e.len {
-        return Measure::Unmeasured;
+        return None;
     }
     bent(e, d, crate::bow::two_fits(&buf[..2 * r]))
 }

@@ -5,13 +5,13 @@ ghost use Rattle.hull.specs.Hull.{hull_of};
 ghost use Rattle.laws.specs.Lent.{UntouchedPast};
 ghost use Rattle.lens.specs.Estimate.{hull_quad};
 
-use hull::points::Corners;
+use hull::points::Quad;
 
 // How many vertices a hull has, and its quad or none.
 #[derive(Drop)]
 pub struct Outer {
     pub hull: usize,
-    pub quad: Corners,
+    pub quad: Option<Quad>,
 }
 
 // The hull of points and its quad; out's beginning holds the vertices then.

@@ -40,12 +40,10 @@ pub fn undistort(s: &[f32], l: Lens, out: &mut [f32]) -> usize
 {
     let n = s.len() / 2;
     let mut m = 0usize;
-    let mut k = 0usize;
-    while k < n {
+    for k in 0..n {
         let x = s[2 * k];
         let y = s[2 * k + 1];
         m = fit::middle::put(out, m, true, straight_x(l, x, y), straight_y(l, x, y));
-        k += 1;
     }
     m
 }

@@ -4,27 +4,24 @@ ghost use Rattle.std.specs.Prelude.{◌≡◌};
 ghost use Rattle.lens.specs.Estimate.{measures_of, weights, shares, agrees, all_agree};
 ghost use Rattle.lens.specs.Estimate.{corner_reach, slope_step};
 
-use crate::estimate::{Measures, Pass, Slopes};
-use crate::measure::{Measure, Slope};
+use crate::estimate::{Pass, Slopes};
+use crate::measure::Slope;
 use hull::points::{Point, Quad};
 
 // The four measures, or none where one is none.
-pub fn measures(a: Measure, b: Measure, c: Measure, d: Measure) -> Measures
+pub fn measures(
+    a: Option<Slope>,
+    b: Option<Slope>,
+    c: Option<Slope>,
+    d: Option<Slope>,
+) -> Option<Slopes>
     ensures { result ≡ measures_of a b c d }
 {
-    let Measure::Bent(fa) = a else {
-        return Measures::Missing;
-    };
-    let Measure::Bent(fb) = b else {
-        return Measures::Missing;
-    };
-    let Measure::Bent(fc) = c else {
-        return Measures::Missing;
-    };
-    let Measure::Bent(fd) = d else {
-        return Measures::Missing;
-    };
-    Measures::All(Slopes {
+    let fa = a?;
+    let fb = b?;
+    let fc = c?;
+    let fd = d?;
+    Some(Slopes {
         a: fa,
         b: fb,
         c: fc,
@@ -84,20 +81,23 @@ pub fn reach_of(q: Quad, m: Point, reach: f32) -> f32
 }
 
 // κ with the mean added, or none.
-pub fn step(t: Slopes, kappa: f32, reach: f32) -> Pass
+pub fn step(t: Slopes, kappa: f32, reach: f32) -> Option<Pass>
     ensures { result ≡ slope_step t kappa reach }
 {
     let den = weigh(t);
     if den == 0.0 {
-        return Pass::NoLens;
+        return None;
     }
     if !ieee::is_finite(den) {
-        return Pass::NoLens;
+        return None;
     }
     let mean = summed(t) / den;
     let total = kappa + mean;
     if all_agree(mean, ieee::abs32(total), t) {
-        return Pass::On(total, reach);
+        return Some(Pass {
+            kappa: total,
+            reach: reach,
+        });
     }
-    Pass::NoLens
+    None
 }

@@ -6,12 +6,12 @@ use Prim.Native.Nat.{◌%◌, ◌*◌, ◌+◌, ◌-◌, ◌/◌, ◌≤◌, ℕ
 use native.Mathlib.Omega.{arith}
 use lib.ListN.{drop, get_or, length, length-drop, length-take, take}
 use Rattle.laws.proofs.Folds.{fold-ext, fold-suc, get_or-written}
-use Rattle.laws.proofs.Planes.{box_row-part, drawn-ext, get_d_part, part, plane-drawn}
+use Rattle.laws.proofs.Planes.{box_row-part, drawn-ext, part, plane-drawn}
 use Rattle.laws.proofs.Writes.{written-ext}
 use Rattle.laws.specs.Fold.{fold, written}
 use Rattle.laws.specs.Plane.{Alike, Plane, value_at, box, drawn, plane, rowwise}
 use Rattle.levels.specs.Level.{from3, least_near, many3, most_near, sharp}
-use Rattle.levels.specs.Inner.{Bytes, pooled_across, column_extreme, pooled_down, pool_step, pairwise, pooled, unit}
+use Rattle.levels.specs.Inner.{pooled_across, column_extreme, pooled_down, pool_step, pairwise, pooled, unit}
 
 pub column-none : (most : Bool) (g : Plane) (x y0 : ℕ) → column_extreme most g x y0 0 ≡ unit most
 unfolding column_extreme fold
@@ -68,9 +68,3 @@ pairwise-drawn w h d l d₀ l₀ ds ls old ed el =
     let q : get_or ls k 0 ≡ most_near w h (plane w l) x y =
     rw el (get_or-written (w * h) (rowwise w (pooled true w h (plane w l))) l₀ k 0 lk) ∙ two-most w h (plane w l) x y in
     rw (p, q))
-
--- a part of a list of bytes
-pub bytes-part : (n a e : ℕ) (l : List ℕ) → Bytes n l → e ≤ n → Bytes (length (part a e l)) (part a e l)
-bytes-part n a e l bytes within i below =
-    let few : length (part a e l) ≤ e - a = simp length-take (omega arith) in
-    rw (get_d_part l a (e - a) i (omega arith)) (bytes (a + i) (omega arith))

@@ -1,7 +1,7 @@
 // The dark and light levels of the level cells, 16 by 16 pixels each, from bins of pixel values.
-ghost use Rattle.std.specs.Prelude.{◌≡◌, ◌+◌, ◌*◌, ◌≤◌, ◌<◌, length};
+ghost use Rattle.std.specs.Prelude.{◌≡◌, ◌+◌, ◌-◌, ◌*◌, ◌≤◌, ◌<◌, min, length};
 ghost use Rattle.laws.specs.Plane.{plane, drawn, value_at};
-ghost use Rattle.levels.specs.Level.{count_rows, low_bin, high_bin, span, cells, dark, light};
+ghost use Rattle.levels.specs.Level.{count_rows, low_bin, high_bin, cells, dark, light};
 ghost use Rattle.picture_checks.specs.Picture.{Picture};
 ghost use Rattle.levels.specs.Inner.{Within, Bins, BinsUpTo, sums, one_more, row_more, Counted};
 
@@ -23,10 +23,8 @@ fn count_row(row: &[u8], bins: &mut [u32; 128])
     requires bins_up_to { BinsUpTo 240 (sums bins.old) }
     ensures { Counted (row_more row.now bins.old) bins.new }
 {
-    let mut i = 0;
-    while i < row.len() {
-        count_one(bins, i % 4, row[i]);
-        i += 1;
+    for (i, v) in row.iter().enumerate() {
+        count_one(bins, i % 4, *v);
     }
 }
 
@@ -45,10 +43,8 @@ fn merged(bins: &[u32; 128]) -> [u32; 32]
     ensures { Bins (sums bins.now) result }
 {
     let mut r = [0u32; 32];
-    let mut i = 0;
-    while i < 32 {
+    for i in 0..32 {
         r[i] = sum_at(bins, i);
-        i += 1;
     }
     r
 }
@@ -59,12 +55,10 @@ fn count_part(s: &[u8], w: usize, x0: usize, y0: usize, lx: usize, ly: usize) ->
     ensures { Bins (count_rows (plane w s.now) x0 y0 lx ly) result }
 {
     let mut bins = [0u32; 128];
-    let mut j = 0;
-    while j < ly {
+    for j in 0..ly {
         let a = (y0 + j) * w + x0;
         let e = a + lx;
         count_row(&s[a..e], &mut bins);
-        j += 1;
     }
     merged(&bins)
 }
@@ -74,10 +68,8 @@ fn count_cell(s: &[u8], w: usize, x0: usize, y0: usize, lx: usize, ly: usize) ->
     requires { Within s.now w x0 y0 lx ly }
     ensures { Bins (count_rows (plane w s.now) x0 y0 lx ly) result }
 {
-    if lx == 16 {
-        if ly == 16 {
-            return count_part(s, w, x0, y0, 16, 16);
-        }
+    if lx == 16 && ly == 16 {
+        return count_part(s, w, x0, y0, 16, 16);
     }
     count_part(s, w, x0, y0, lx, ly)
 }
@@ -89,13 +81,11 @@ fn low_bin(bins: &[u32; 32], cut: u32) -> usize
     ensures most { result ≤ 31 }
 {
     let mut acc: u32 = 0;
-    let mut b = 0;
-    while b < 31 {
+    for b in 0..31 {
         acc += bins[b];
         if cut < acc {
             return b;
         }
-        b += 1;
     }
     31
 }
@@ -106,29 +96,27 @@ fn high_bin(bins: &[u32; 32], cut: u32) -> usize
     ensures answer { result ≡ high_bin (value_at bins.now) cut }
     ensures most { result ≤ 31 }
 {
+    // Kept: low_bin from the other end; one fn with a const for the end branches in the loop, no plainer.
     let mut acc: u32 = 0;
-    let mut k = 0;
-    while k < 31 {
+    for k in 0..31 {
         acc += bins[31 - k];
         if cut < acc {
             return 31 - k;
         }
-        k += 1;
     }
     0
 }
 
-// How many pixels of level cell c lie on a side of n.
-fn span_of(n: usize, c: usize) -> usize
-    requires { 16 * c < n }
-    ensures { result ≡ span n c }
+// How many pixels of cell c lie on a side of n, where a cell has `size` of them.
+pub fn span_of(size: usize, n: usize, c: usize) -> usize
+    requires { size * c < n }
+    ensures { result ≡ min size (n - size * c) }
 {
-    let left = n - 16 * c;
-    if left < 16 { left } else { 16 }
+    (n - size * c).min(size)
 }
 
 // The dark and light level of one cell: 8 times its low bin, 8 times its high bin and 7.
-#[derive(Drop)]
+#[derive(Clone, Copy)]
 pub struct Levels {
     pub dark: u8,
     pub light: u8,
@@ -140,8 +128,8 @@ fn cell_levels(s: &[u8], w: usize, h: usize, cx: usize, cy: usize) -> Levels
     ensures { (result.dark ≡ dark (plane w s.now) w h cx cy)
         × (result.light ≡ light (plane w s.now) w h cx cy) }
 {
-    let lx = span_of(w, cx);
-    let ly = span_of(h, cy);
+    let lx = span_of(16, w, cx);
+    let ly = span_of(16, h, cy);
     let bins = count_cell(s, w, 16 * cx, 16 * cy, lx, ly);
     let cut = (lx * ly / 20) as u32;
     let low = low_bin(&bins, cut);
@@ -157,7 +145,7 @@ pub fn cells_of(n: usize) -> usize
     requires { n ≤ 4096 }
     ensures { result ≡ cells n }
 {
-    (n + 15) / 16
+    n.div_ceil(16)
 }
 
 // The dark and light levels of every cell.
@@ -172,11 +160,9 @@ pub(crate) fn level_cells(s: &[u8], w: usize, h: usize, darks: &mut [u32], light
 {
     let cw = cells_of(w);
     let n = cw * cells_of(h);
-    let mut k = 0;
-    while k < n {
+    for k in 0..n {
         let v = cell_levels(s, w, h, k % cw, k / cw);
         darks[k] = v.dark as u32;
         lights[k] = v.light as u32;
-        k += 1;
     }
 }

@@ -43,7 +43,7 @@ fn south_of(g: &[u8], w: usize, h: usize, x: usize, y: usize) -> u8
 fn one_if(v: u8) -> u32
     ensures { result ≡ nonzero v }
 {
-    if v == 0 { 0 } else { 1 }
+    u32::from(v != 0)
 }
 
 // The mean of those that are not 0, rounded down; 0 if all are.
@@ -87,16 +87,15 @@ fn fill_pass(prev: &[u8], next: &mut [u32], w: usize, h: usize)
     ensures bytes { Bytes (w * h) next.new }
 {
     let n = w * h;
-    let mut k = 0;
+    // Kept: x and y are counted beside k; with a row's loop apart it is two functions, no plainer.
     let mut x = 0;
     let mut y = 0;
     let mut left: u8 = 0;
-    while k < n {
+    for k in 0..n {
         let here = prev[k];
         let filled = fill_cell(prev, w, h, x, y, here, left);
         next[k] = filled as u32;
         left = here;
-        k += 1;
         x += 1;
         if x == w {
             left = 0;
@@ -112,10 +111,8 @@ fn narrow(src: &[u32], dst: &mut [u8], n: usize)
     requires bytes { Bytes n src.now }
     ensures { dst.new ≡ written n (value_at src.now) dst.old }
 {
-    let mut k = 0;
-    while k < n {
+    for k in 0..n {
         dst[k] = src[k] as u8;
-        k += 1;
     }
 }
 
@@ -127,10 +124,8 @@ pub(crate) fn fill_passes(grid: &mut [u8], work: &mut [u32], w: usize, h: usize)
         ≡ drawn w h (passes w h 8 (plane w grid.old)) grid.old }
     ensures work_past { UntouchedPast (w * h) work.old work.new }
 {
-    let mut i: usize = 0;
-    while i < 8 {
+    for _ in 0..8usize {
         fill_pass(grid, work, w, h);
         narrow(work, grid, w * h);
-        i += 1;
     }
 }

@@ -1,5 +1,5 @@
 // The least dark and greatest light level within 3 cells, in two steps, and thresholds from them.
-ghost use Rattle.std.specs.Prelude.{◌≡◌, ◌+◌, ◌*◌, ◌≤◌, ◌<◌, min, max, length};
+ghost use Rattle.std.specs.Prelude.{◌≡◌, ◌+◌, ◌*◌, ◌≤◌, ◌<◌, length};
 ghost use Rattle.laws.specs.Fold.{fold, written};
 ghost use Rattle.laws.specs.Lent.{UntouchedPast};
 ghost use Rattle.laws.specs.Plane.{plane, drawn, value_at};
@@ -8,23 +8,11 @@ ghost use Rattle.levels.specs.Inner.{LevelGrid, Bytes, pool_step, unit, pooled_a
 
 use threshold::threshold_of;
 
-fn min8(a: u8, b: u8) -> u8
-    ensures { result ≡ min a b }
-{
-    if a < b { a } else { b }
-}
-
-fn max8(a: u8, b: u8) -> u8
-    ensures { result ≡ max a b }
-{
-    if a > b { a } else { b }
-}
-
 // The greater or the lesser of two bytes.
 fn join8(most: bool, a: u8, b: u8) -> u8
     ensures { result ≡ pool_step most a b }
 {
-    if most { max8(a, b) } else { min8(a, b) }
+    if most { a.max(b) } else { a.min(b) }
 }
 
 // What a pool begins from.
@@ -38,18 +26,14 @@ fn unit8(most: bool) -> u8
 fn near_first(c: usize) -> usize
     ensures { result ≡ from3 c }
 {
-    if c < 3 { 0 } else { c - 3 }
+    c.saturating_sub(3)
 }
 
 fn near_count(n: usize, c: usize) -> usize
     requires { (c < n) × (n ≤ 256) }
     ensures { result ≡ many3 n c }
 {
-    if c + 4 < n {
-        c + 4 - near_first(c)
-    } else {
-        n - near_first(c)
-    }
+    (c + 4).min(n) - near_first(c)
 }
 
 // The greatest or the least of a row of bytes.
@@ -59,10 +43,8 @@ fn join_row(row: &[u32], most: bool) -> u8
         (value_at row.now) }
 {
     let mut r = unit8(most);
-    let mut i = 0;
-    while i < row.len() {
-        r = join8(most, r, row[i] as u8);
-        i += 1;
+    for v in row {
+        r = join8(most, r, *v as u8);
     }
     r
 }
@@ -88,10 +70,8 @@ fn down_cell(g: &[u8], w: usize, h: usize, x: usize, y: usize, most: bool) -> u8
     let y0 = near_first(y);
     let n = near_count(h, y);
     let mut m = unit8(most);
-    let mut j = 0;
-    while j < n {
+    for j in 0..n {
         m = join8(most, m, g[(y0 + j) * w + x]);
-        j += 1;
     }
     m
 }
@@ -104,12 +84,11 @@ fn pool_across(src: &[u32], dst: &mut [u8], w: usize, h: usize, most: bool)
         ≡ drawn w h (pooled_across most w (plane w src.now)) dst.old }
 {
     let n = w * h;
-    let mut k = 0;
+    // Kept: x and y are counted beside k; with a row's loop apart it is two functions, no plainer.
     let mut x = 0;
     let mut y = 0;
-    while k < n {
+    for k in 0..n {
         dst[k] = across_cell(src, w, h, x, y, most);
-        k += 1;
         x += 1;
         if x == w {
             x = 0;
@@ -126,12 +105,11 @@ fn pool_down(src: &[u8], dst: &mut [u32], w: usize, h: usize, most: bool)
     ensures bytes { Bytes (w * h) dst.new }
 {
     let n = w * h;
-    let mut k = 0;
+    // Kept: x and y are counted beside k; with a row's loop apart it is two functions, no plainer.
     let mut x = 0;
     let mut y = 0;
-    while k < n {
+    for k in 0..n {
         dst[k] = down_cell(src, w, h, x, y, most) as u32;
-        k += 1;
         x += 1;
         if x == w {
             x = 0;
@@ -162,10 +140,8 @@ fn thresholds(darks: &[u32], lights: &[u32], grid: &mut [u8], n: usize)
     ensures { grid.new
         ≡ written n (pairwise darks.now lights.now) grid.old }
 {
-    let mut k = 0;
-    while k < n {
+    for k in 0..n {
         grid[k] = threshold_of(darks[k] as u8, lights[k] as u8);
-        k += 1;
     }
 }
 

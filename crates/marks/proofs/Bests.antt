@@ -1,5 +1,5 @@
 -- Laws of the first greatest count.
---     best_none, best-turn, best-done  one count further, as the loop goes
+--     best_none, best-turn             one count further, as the loop goes
 --     best-below                       it is among those compared
 --     not-above                        what is at most a float is not above it
 --     best-by-scores                   the Rust's search by scores ends there too
@@ -42,9 +42,6 @@ best-turn counts k b r h e er =
     let w : k - 1 + 1 ≡ k + 1 - 1 = omega arith in
     best-step counts (k - 1) b r e (subst (λ (x : ℕ). r ≡ cond (ltb (get_or counts b 0) (get_or counts x 0)) x b) (sym z) er)
     ∙ ap (λ (x : ℕ). best_to counts x) w
-
-pub best-done : (counts : List ℕ) (k b : ℕ) → k ≡ 8 → b ≡ best_to counts (k - 1) → b ≡ best_to counts 7
-best-done counts k b e h = h ∙ ap (λ (x : ℕ). best_to counts (x - 1)) e
 
 pub best-below : (counts : List ℕ) (k : ℕ) → best_to counts k ≤ k
 unfolding best_to

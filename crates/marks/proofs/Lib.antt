@@ -1,4 +1,3 @@
-pub mod Answers
 pub mod Bests
 pub mod Greatest
 pub mod MarkLists

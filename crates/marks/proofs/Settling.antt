@@ -3,25 +3,20 @@
 --     settled-by                         a round has settled where the code's test says so
 --     end-two, end-three, end-four       the split and its round at the ends of the code
 --     stops                              the split of the settled round is that of four rounds
---     finite-on, finite-stop, finite-end finite numbers, one after the other
 -- Assumes nothing.
 use mathlib.Core.Path.{◌≡◌, refl, sym, ap, ◌∙◌}
 use mathlib.Core.Bool.{Bool, true, false, not, cond, ◌&&◌, ◌||◌}
 use mathlib.Core.List.{List}
-use Prim.Native.Nat.{ℕ, zero, suc, ◌+◌, ◌<◌, ◌≤◌}
-use native.Mathlib.Numerals.{add-one}
+use Prim.Native.Nat.{ℕ, zero, suc}
 use lib.Dec.{T, eqb}
 use lib.Ieee.{Float, nan, inf, fin, binary32, eq, ne, of_bits, to_bits, fits, is_nan}
 use lib.Ieee.Bits.{of_bits-to_bits}
 use lib.Ieee.Fits.{div-fits, cond-fits}
-use lib.ListN.{length, get_or, drop, drop_of_length-le}
-use lib.Seq.{drop-cons}
+use lib.ListN.{length}
 use borrow.Author.Tests.{eqb-true, eq-eqb}
 use Rattle.laws.proofs.Bools.{clash}
-use Rattle.ieee.specs.Ops.{finite}
 use Rattle.ieee.proofs.Helpers.{ne-nan}
 use Rattle.marks.specs.Split.{0·0, split_mean, sides_to, between, split_round, rounds, split_after, split, same_bits, settled_after, round_of, settled_split}
-use Rattle.marks.specs.Doors.{all_finite}
 use Rattle.marks.proofs.Splits.{round-next}
 
 -- ---- the same bits
@@ -95,22 +90,22 @@ module _ (w : List Float) where
   settled-again k e = still (suc k) refl (settled-next k e)
 
   -- ---- the ends of the code
-  pub end-two : {x : Float} → settled_after w 1 ≡ true → x ≡ split_after w 2 → record { at = x; round = 2 } ≡ settled_split w
+  pub end-two : {x : Float} → settled_after w 1 ≡ true → x ≡ split_after w 2 → record { split = x; round = 2 } ≡ settled_split w
   unfolding settled_split round_of
   end-two e ex = rw (e, ex)
 
   pub end-three : {x : Float} → settled_after w 1 ≡ false → settled_after w 2 ≡ true → x ≡ split_after w 3
-      → record { at = x; round = 3 } ≡ settled_split w
+      → record { split = x; round = 3 } ≡ settled_split w
   unfolding settled_split round_of
   end-three e f ex = rw (e, f, ex)
 
   pub end-four : {x : Float} → settled_after w 1 ≡ false → settled_after w 2 ≡ false → x ≡ split_after w 4
-      → record { at = x; round = 4 } ≡ settled_split w
+      → record { split = x; round = 4 } ≡ settled_split w
   unfolding settled_split round_of
   end-four e f ex = rw (e, f, ex)
 
   -- ---- four rounds
-  pub stops : (settled_split w).at ≡ split w
+  pub stops : (settled_split w).split ≡ split w
   unfolding settled_split round_of split split_after
   stops = go (settled_after w 1) (settled_after w 2) refl refl
     where
@@ -119,20 +114,3 @@ module _ (w : List Float) where
       go true q e f = rw e (settled-next 1 e ∙ settled-next 2 (settled-again 1 e))
       go false true e f = rw (e, f) (settled-next 2 f)
       go false false e f = rw (e, f)
-
--- ---- finite numbers, one after the other
-module _ (w : List Float) (i : ℕ) where
-  next-by : {b : Bool} → i < length w → finite (get_or w i nan) ≡ b → all_finite (drop i w) ≡ all_finite w
-      → (b && all_finite (drop (suc i) w)) ≡ all_finite w
-  unfolding all_finite
-  next-by l e h = sym (ap all_finite (drop-cons w i nan l) ∙ ap (λ (b : Bool). b && all_finite (drop (suc i) w)) e) ∙ h
-
-  pub finite-on : i < length w → finite (get_or w i nan) ≡ true → all_finite (drop i w) ≡ all_finite w → all_finite (drop (i + 1) w) ≡ all_finite w
-  finite-on l e h = rw (add-one i) (next-by l e h)
-
-  pub finite-stop : i < length w → finite (get_or w i nan) ≡ false → all_finite (drop i w) ≡ all_finite w → false ≡ all_finite w
-  finite-stop l e h = next-by l e h
-
-  pub finite-end : length w ≤ i → all_finite (drop i w) ≡ all_finite w → true ≡ all_finite w
-  unfolding all_finite
-  finite-end l h = sym (ap all_finite (drop_of_length-le w l)) ∙ h

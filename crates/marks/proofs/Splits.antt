@@ -1,9 +1,9 @@
 -- Laws of the split of a window.
---     sides-none, sides-turn, sides-done     the two sides, one number further
---     total_first, total-turn, total-done    the sum, one number further
+--     sides-none, sides-turn                 the two sides, one number further
+--     total_first, total-turn                the sum, one number further
 --     between-low, between-high, between-both  the threshold between two sides, in the three cases of the code
---     round_is, mean-is, round-next, split-from-mean, split-is  a round, the mean before the first, the split after one round
---                                            more, after four from the mean, and from the sum
+--     round_is, mean-is, round-next, split-from-mean  a round, the mean before the first, the split after one round
+--                                            more, and after four from the mean
 --     same_none, same_turn                   numbers on one side of two thresholds, one number further
 --     stays                                  a round after which no number changes sides is the last that moves the threshold
 -- Assumes nothing.
@@ -30,9 +30,6 @@ pub sides-turn : (t : Float) (w : List Float) (i : ℕ) (s r : Sides) → s ≡ 
 unfolding sides_to
 sides-turn t w i s r e er = rw add-one (er ∙ ap (λ (z : Sides). put_side t (get_or w i nan) z) e)
 
-pub sides-done : (t : Float) (w : List Float) (i n : ℕ) (s : Sides) → i ≡ n → s ≡ sides_to t w i → s ≡ sides_to t w n
-sides-done t w i n s e h = h ∙ ap (λ (k : ℕ). sides_to t w k) e
-
 pub total_first : (w : List Float) → get_or w 0 nan ≡ total_to w 0
 unfolding total_to
 total_first w = refl
@@ -45,9 +42,6 @@ total-turn w i s h e =
     let y : i ≡ suc (i - 1) = omega arith in
     ap (λ (x : Float). add binary32 x (get_or w i nan)) e ∙ ap (λ (k : ℕ). add binary32 (total_to w (i - 1)) (get_or w k nan)) y
     ∙ ap (λ (k : ℕ). total_to w k) (sym z)
-
-pub total-done : (w : List Float) (i n : ℕ) (s : Float) → i ≡ n → s ≡ total_to w (i - 1) → s ≡ total_to w (n - 1)
-total-done w i n s e h = h ∙ ap (λ (k : ℕ). total_to w (k - 1)) e
 
 pub between-low : (t : Float) (s : Sides) → eq s.ln 0·0 ≡ true → t ≡ between t s
 unfolding between
@@ -81,11 +75,6 @@ pub split-from-mean : (w : List Float) {m a b c d : Float} → m ≡ split_after
     → c ≡ split_round w b → d ≡ split_round w c → d ≡ split w
 unfolding split split_after
 split-from-mean w em ea eb ec ed = round-next w 3 (round-next w 2 (round-next w 1 (round-next w 0 em ea) eb) ec) ed
-
-pub split-is : (w : List Float) (total m a b c d : Float) (n : ℕ) → n ≡ length w → total ≡ total_to w (length w - 1)
-    → m ≡ div binary32 total (of_int binary32 (pos n))
-    → a ≡ split_round w m → b ≡ split_round w a → c ≡ split_round w b → d ≡ split_round w c → d ≡ split w
-split-is w total m a b c d n en et em ea eb ec ed = split-from-mean w (em ∙ mean-is w total n en et) ea eb ec ed
 
 -- ---- a round after which no number changes sides
 pub same_none : (w : List Float) (a b : Float) → SameSides w a b 0

@@ -1,16 +1,14 @@
 -- Laws of the walk round the ring that counts agreement.
---     back-first, back_on, on-last, on-next  the place after a place, in the four cases of the code
 --     pose-first, pose-next                  a map's values one after the other
 --     Counting                               the invariant: counting-begin, counting-turn, counting-end
---     eight-same                             eight counts are the list of counts
 -- Assumes nothing.
 use mathlib.Core.Path.{◌≡◌, refl, sym, ap, ◌∙◌, subst}
 use mathlib.Core.Bool.{Bool, true, false, beq, cond}
-use mathlib.Core.List.{List, [], ◌∷◌}
+use mathlib.Core.List.{List}
 use Prim.Native.Nat.{ℕ, suc, ◌+◌, ◌*◌, ◌-◌, ◌%◌, ◌<◌, ◌≤◌}
 use native.Mathlib.Omega.{arith}
 use native.Mathlib.Numerals.{add-one}
-use native.Mathlib.Nat.{mul-lt-mul_of_pos_right, mod_self, mod-eq_of_lt, mod-add-mod, add-mod_right}
+use native.Mathlib.Nat.{mul-lt-mul_of_pos_right, mod-eq_of_lt, mod-add-mod, add-mod_right}
 use lib.ListN.{get_or}
 use Rattle.laws.specs.Count.{count}
 use Rattle.laws.specs.Fold.{bit}
@@ -19,26 +17,6 @@ use Rattle.lcr_core.specs.Mark.{mark, AllMarks}
 use Rattle.marks.specs.Pose.{pose_at, agree_at, agreement}
 use Rattle.marks.specs.Correlate.{step_from}
 use Rattle.marks.proofs.Poses.{mod_same, four}
-
--- ---- the next place
-
-pub back-first : (at n : ℕ) (reversed : Bool) → reversed ≡ true → at ≡ 0 → at < n → n - 1 ≡ step_from at n reversed
-back-first at n reversed e z h =
-    let w : at + (n - 1) ≡ n - 1 = omega arith in
-    let l : n - 1 < n = omega arith in
-    rw e (sym (ap (λ (m : ℕ). m % n) w ∙ mod-eq_of_lt l))
-
-pub back_on : (at n : ℕ) (reversed : Bool) → reversed ≡ true → (at ≡ 0 → ⊥) → at < n → at - 1 ≡ step_from at n reversed
-back_on at n reversed e z h =
-    let w : at + (n - 1) ≡ at - 1 + n = omega arith in
-    let l : at - 1 < n = omega arith in
-    rw e (sym (ap (λ (m : ℕ). m % n) w ∙ add-mod_right (at - 1) n ∙ mod-eq_of_lt l))
-
-pub on-last : (at n : ℕ) (reversed : Bool) → reversed ≡ false → at + 1 ≡ n → 0 ≡ step_from at n reversed
-on-last at n reversed e z = rw e (sym (ap (λ (m : ℕ). m % n) z ∙ mod_self n))
-
-pub on-next : (at n : ℕ) (reversed : Bool) → reversed ≡ false → (at + 1 ≡ n → ⊥) → at < n → at + 1 ≡ step_from at n reversed
-on-next at n reversed e z h = let l : at + 1 < n = omega arith in rw e (sym (mod-eq_of_lt l))
 
 -- ---- a map's values
 
@@ -142,8 +120,3 @@ pub counting-end : (s : List Bool) (w r : ℕ) (reversed : Bool) (n at counted i
     → Counting s r reversed n at counted i → counted ≡ agreement w s r reversed
 counting-end s w r reversed n at counted i en h c =
     let l = c.within in count-done w s r reversed i counted (omega arith) (c.so_far w en)
-
-pub eight-same : (a b c d e f g h a' b' c' d' e' f' g' h' : ℕ)
-    → a ≡ a' → b ≡ b' → c ≡ c' → d ≡ d' → e ≡ e' → f ≡ f' → g ≡ g' → h ≡ h'
-    → a ∷ b ∷ c ∷ d ∷ e ∷ f ∷ g ∷ h ∷ [] ≡ a' ∷ b' ∷ c' ∷ d' ∷ e' ∷ f' ∷ g' ∷ h' ∷ []
-eight-same a b c d e f g h a' b' c' d' e' f' g' h' ea eb ec ed ee ef eg eh = cc

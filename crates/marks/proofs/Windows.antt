@@ -1,5 +1,4 @@
 -- Laws of the finite lumas round the ring and of windows as parts of them.
---     around-first, around-mid, around-last  the place round the ring, in the three cases of the code
 --     keep-yes, keep-no                      one luma further
 --     gathered-append                        places from a on, in two parts
 --     gathered-begin, gathered-turn          the invariant of the loop that gathers
@@ -10,10 +9,9 @@
 use mathlib.Core.Path.{◌≡◌, refl, sym, ap, ◌∙◌}
 use mathlib.Core.Bool.{Bool, true, false, cond}
 use mathlib.Core.List.{List, [], ◌∷◌, ◌++◌, append_assoc, append-nil}
-use Prim.Native.Nat.{ℕ, zero, suc, ◌+◌, ◌-◌, ◌%◌, ◌<◌, ◌≤◌}
+use Prim.Native.Nat.{ℕ, zero, suc, ◌+◌, ◌-◌, ◌<◌, ◌≤◌}
 use native.Mathlib.Omega.{arith}
 use native.Mathlib.Numerals.{add-one}
-use native.Mathlib.Nat.{mod-eq_of_lt, add-mod_right}
 use borrow.Author.Tests.{lt-ltb, le-ltb}
 use lib.Ieee.{Float, nan, lt}
 use lib.ListN.{length, get_or, take, drop, set, length-append, length-set, take-append-drop}
@@ -23,23 +21,6 @@ use Rattle.ieee.specs.Ops.{finite}
 use Rattle.marks.specs.Split.{split}
 use Rattle.marks.proofs.MarkLists.{marks-none, marks-turn, marks-done}
 use Rattle.marks.specs.Classify.{place_around, luma_around, kept, gathered, window, light_in, light_at, marks_of, lights, Gathered, Around}
-
--- ---- places
-
-pub around-first : (n j : ℕ) → 16 ≤ n → j < 16 → n + j - 16 ≡ place_around n j
-around-first n j h l = let b : n + j - 16 < n = omega arith in sym (mod-eq_of_lt b)
-
-pub around-mid : (n j : ℕ) → 16 ≤ j → j < n + 16 → j - 16 ≡ place_around n j
-around-mid n j h l =
-    let b : j - 16 < n = omega arith in
-    let e : n + j - 16 ≡ j - 16 + n = omega arith in
-    sym (ap (λ (k : ℕ). k % n) e ∙ add-mod_right (j - 16) n ∙ mod-eq_of_lt b)
-
-pub around-last : (n j : ℕ) → 33 ≤ n → n + 16 ≤ j → j ≤ n + 32 → j - 16 - n ≡ place_around n j
-around-last n j h l m =
-    let b : j - 16 - n < n = omega arith in
-    let e : n + j - 16 ≡ j - 16 - n + n + n = omega arith in
-    sym (ap (λ (k : ℕ). k % n) e ∙ add-mod_right (j - 16 - n + n) n ∙ add-mod_right (j - 16 - n) n ∙ mod-eq_of_lt b)
 
 -- ---- gathering
 
@@ -147,9 +128,6 @@ gathered-turn s l l' j k r x ex e same room few g =
 -- no more than the places passed
 pub gathered-room : (s l : List Float) (j k : ℕ) → Gathered s j k l → k ≤ j
 gathered-room s l j k g = let e = g.many in let m = gathered-few s 0 j in omega arith
-
-pub around-is : (s l : List Float) (k : ℕ) → Gathered s (length s + 32) k l → Around s l
-around-is s l k g = record { are = ap (λ (i : ℕ). take i l) (sym g.many) ∙ g.are }
 
 -- ---- windows
 

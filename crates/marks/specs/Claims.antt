@@ -40,4 +40,4 @@ pub record BestByScores : Type 0 where
 -- "Every answer is the one that four rounds would give": the split of the round at which a window has settled is that of round 4, for every
 -- list of numbers.
 pub record SplitSettles : Type 0 where
-  pub stops : (w : List Float) → (settled_split w).at ≡ split w
+  pub stops : (w : List Float) → (settled_split w).split ≡ split w

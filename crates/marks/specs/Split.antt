@@ -6,7 +6,7 @@ use Rattle.std.specs.Float.{nan, binary32}
 use Rattle.std.specs.Float.Ieee.{add, div, lt, eq, is_nan, of_int, of_bits, to_bits}
 use Rattle.ieee.specs.Constants.{1f, 2f}
 use Rattle.marks.specs.declared.split.Sides.{Sides}
-use Rattle.marks.specs.declared.split.Split.{Split}
+use Rattle.marks.specs.declared.split.Settled.{Settled}
 
 -- 0.0 as an `f32`
 abbrev pub 0·0 : Float
@@ -78,5 +78,5 @@ unfoldable pub round_of : List Float → ℕ
 round_of w = cond (settled_after w 1) 2 (cond (settled_after w 2) 3 4)
 
 -- The split of that round, with its number.
-unfoldable pub settled_split : List Float → Split
-settled_split w = record { at = split_after w (round_of w); round = round_of w }
+unfoldable pub settled_split : List Float → Settled
+settled_split w = record { split = split_after w (round_of w); round = round_of w }

@@ -5,18 +5,11 @@ ghost use Rattle.ieee.specs.Ops.{finite};
 ghost use Rattle.marks.specs.Classify.{place_around, luma_around, kept, window};
 ghost use Rattle.marks.specs.Classify.{light_in, lights, Ring, Gathered, Around};
 ghost use Rattle.marks.specs.Doors.{classify_checks, classify_answer, marks_after};
+ghost use Rattle.refusal.specs.Numbers.{said};
 
 use crate::split;
-use lcr_core::version::{Version, VersionAnswer};
-
-// What `classify` answers.
-#[derive(Drop)]
-pub enum Classified {
-    // the lent marks are written
-    Done,
-    // the number of the first check that fails
-    Refused(u32),
-}
+use lcr_core::version::Version;
+use refusal::Refusal;
 
 // The position at place j round a ring of n, where place 16 is position 0.
 fn place_around(j: usize, n: usize) -> usize
@@ -56,10 +49,8 @@ fn gather(lumas: &[f32], from: usize, to: usize, len: usize, around: &mut [f32])
 {
     let n = lumas.len();
     let mut r = len;
-    let mut j = from;
-    while j < to {
+    for j in from..to {
         r = keep(around, r, lumas[place_around(j, n)]);
-        j += 1;
     }
     r
 }
@@ -101,12 +92,10 @@ fn light_all(lumas: &[f32], around: &[f32], first: usize, marks: &mut [bool])
 {
     let mut lo: usize = 0;
     let mut hi = first;
-    let mut p = 0;
-    while p < lumas.len() {
+    for p in 0..lumas.len() {
         marks[p] = is_light(lumas[p], &around[lo..hi]);
         lo = passed(lumas, p, lo);
         hi = passed(lumas, p + 33, hi);
-        p += 1;
     }
 }
 
@@ -123,33 +112,26 @@ fn classify_all(lumas: &[f32], marks: &mut [bool])
 }
 
 // The checks in order: 8, then 11 for the lumas, then 11 for the marks.
-fn check(version: u32, lumas: usize, marks: usize) -> Classified
-    ensures { result ≡ classify_checks version lumas marks }
+fn check(version: u32, lumas: usize, marks: usize) -> Result<(), Refusal>
+    ensures { said result ≡ classify_checks version lumas marks }
 {
-    let VersionAnswer::Known(v) = Version::new(version) else {
-        return Classified::Refused(8);
-    };
+    let v = Version::new(version)?;
     let n = v.positions();
-    if lumas == n {
-        if marks == n {
-            return Classified::Done;
-        }
-        return Classified::Refused(11);
+    if lumas != n {
+        return Err(Refusal::Marks);
     }
-    Classified::Refused(11)
+    if marks != n {
+        return Err(Refusal::Marks);
+    }
+    Ok(())
 }
 
 // Light or dark at each position of a version, into the lent marks; a refusal leaves them.
-pub fn classify(version: u32, lumas: &[f32], marks: &mut [bool]) -> Classified
-    ensures answer { result ≡ classify_answer version lumas.now marks.old }
-    ensures marks { marks.new ≡ marks_after result lumas.now marks.old }
+pub fn classify(version: u32, lumas: &[f32], marks: &mut [bool]) -> Result<(), Refusal>
+    ensures answer { said result ≡ classify_answer version lumas.now marks.old }
+    ensures marks { marks.new ≡ marks_after (said result) lumas.now marks.old }
 {
-    let answer = check(version, lumas.len(), marks.len());
-    match answer {
-        Classified::Done => {
-            classify_all(lumas, marks);
-            Classified::Done
-        }
-        Classified::Refused(n) => Classified::Refused(n),
-    }
+    check(version, lumas.len(), marks.len())?;
+    classify_all(lumas, marks);
+    Ok(())
 }

@@ -2,29 +2,32 @@
 ghost use Rattle.std.specs.Prelude.{◌≡◌, cond, ◌<◌, ◌≤◌, ltb, length, get_or};
 ghost use Rattle.std.specs.Bool.{beq};
 ghost use Rattle.laws.specs.Fold.{bit};
-ghost use Rattle.lcr_core.specs.Version.{IsVersion, positions_of};
+ghost use Rattle.lcr_core.specs.Version.{positions_of};
 ghost use Rattle.lcr_core.specs.Mark.{AllMarks};
 ghost use Rattle.marks.specs.Pose.{agreement, counts_of};
 ghost use Rattle.marks.specs.Correlate.{step_from, best_pose, score};
-ghost use Rattle.marks.specs.Doors.{marked_pose, correlate_answer, counts_beside};
+ghost use Rattle.marks.specs.Doors.{pose_and_counts, correlate_answer};
+ghost use Rattle.refusal.specs.Numbers.{said};
 
 use lcr_core::border;
-use lcr_core::version::{Version, VersionAnswer};
+use lcr_core::version::Version;
+use refusal::Refusal;
 
-// The pose that agrees best, or a refusal.
-#[derive(Drop)]
-pub enum Best {
-    // agreement count / positions, 0 to 1; corner, 0 to 3; whether reversed
-    Pose(f32, usize, bool),
-    // the number of the first check that fails
-    Refused(u32),
+// The pose that agrees best.
+#[derive(Clone, Copy)]
+pub struct Pose {
+    // agreement count / positions, 0 to 1
+    pub score: f32,
+    // 0 to 3
+    pub corner: usize,
+    pub reversed: bool,
 }
 
 // The answer of `correlate`, with the eight agreement counts.
-#[derive(Drop)]
+#[derive(Clone, Copy)]
 pub struct Correlated {
-    pub best: Best,
-    // corners 0 to 3 forward, then reversed, each 0 to the positions; all 0 on refusal
+    pub best: Pose,
+    // corners 0 to 3 forward, then reversed, each 0 to the positions
     pub counts: [u16; 8],
 }
 
@@ -33,16 +36,7 @@ fn one_if_same(a: bool, b: bool) -> u16
     ensures at_most { result ≤ 1 }
     ensures answer { result ≡ bit (beq a b) }
 {
-    if a {
-        if b {
-            return 1;
-        }
-        return 0;
-    }
-    if b {
-        return 0;
-    }
-    1
+    (a == b) as u16
 }
 
 // The place after this one, of n in a ring; backward where reversed.
@@ -66,33 +60,29 @@ fn next_place(at: usize, n: usize, reversed: bool) -> usize
 
 // The agreement count of a pose; `seq` has the version's marks.
 fn agreement_at(marks: &[bool], seq: &[bool], version: Version, r: usize, reversed: bool) -> u16
-    requires version { IsVersion version.0 }
-    requires version_in_bounds { positions_of version.0 ≤ length seq.now }
-    requires all_marks { AllMarks version.0 seq.now }
-    requires marks_len { length marks.now ≡ positions_of version.0 }
+    requires version_in_bounds { positions_of version ≤ length seq.now }
+    requires all_marks { AllMarks version seq.now }
+    requires marks_len { length marks.now ≡ positions_of version }
     requires r_bound { r < 4 }
-    ensures { result ≡ agreement version.0 marks.now r reversed }
+    ensures { result ≡ agreement version marks.now r reversed }
 {
     let n = version.positions();
     let q = border::quarter(version);
     let mut at = r * q;
     let mut count: u16 = 0;
-    let mut i: usize = 0;
-    while i < n {
+    for i in 0..n {
         count += one_if_same(seq[i], marks[at]);
         at = next_place(at, n, reversed);
-        i += 1;
     }
     count
 }
 
 // The eight agreement counts, from the version's marks in `seq`.
 fn counts_by(marks: &[bool], seq: &[bool], version: Version) -> [u16; 8]
-    requires version { IsVersion version.0 }
-    requires version_in_bounds { positions_of version.0 ≤ length seq.now }
-    requires all_marks { AllMarks version.0 seq.now }
-    requires marks_len { length marks.now ≡ positions_of version.0 }
-    ensures { result ≡ counts_of version.0 marks.now }
+    requires version_in_bounds { positions_of version ≤ length seq.now }
+    requires all_marks { AllMarks version seq.now }
+    requires marks_len { length marks.now ≡ positions_of version }
+    ensures { result ≡ counts_of version marks.now }
 {
     [
         agreement_at(marks, seq, version, 0, false),
@@ -108,13 +98,13 @@ fn counts_by(marks: &[bool], seq: &[bool], version: Version) -> [u16; 8]
 
 // The eight agreement counts.
 fn counts_of(marks: &[bool], version: Version) -> [u16; 8]
-    requires version { IsVersion version.0 }
-    requires marks_len { length marks.now ≡ positions_of version.0 }
-    ensures { result ≡ counts_of version.0 marks.now }
+    requires { length marks.now ≡ positions_of version }
+    ensures { result ≡ counts_of version marks.now }
 {
-    let mut seq = [false; 1112];
-    border::sequence(version, &mut seq);
-    counts_by(marks, &seq, version)
+    let mut places = [false; 1112];
+    let seq = &mut places[..version.positions()];
+    border::sequence(version, seq);
+    counts_by(marks, seq, version)
 }
 
 // The later of two places of counts where its count is greater, else the earlier.
@@ -136,17 +126,15 @@ fn best_of(counts: [u16; 8]) -> usize
     ensures answer { result ≡ best_pose counts }
 {
     let mut b: usize = 0;
-    let mut k: usize = 1;
-    while k < 8 {
+    for k in 1..8 {
         b = greater_of(counts, b, k);
-        k += 1;
     }
     b
 }
 
 // Count / positions.
 fn score_of(version: Version, count: u16) -> f32
-    ensures { result ≡ score version.0 count }
+    ensures { result ≡ score version count }
 {
     let n = version.positions() as u16;
     (count as f32) / (n as f32)
@@ -154,34 +142,26 @@ fn score_of(version: Version, count: u16) -> f32
 
 // The counts of as many marks as positions, and the best pose.
 fn best_pose(marks: &[bool], version: Version) -> Correlated
-    requires version { IsVersion version.0 }
-    requires marks_len { length marks.now ≡ positions_of version.0 }
-    ensures best { result.best ≡ marked_pose version.0 marks.now }
-    ensures counts { result.counts ≡ counts_of version.0 marks.now }
+    requires { length marks.now ≡ positions_of version }
+    ensures { result ≡ pose_and_counts version marks.now }
 {
     let counts = counts_of(marks, version);
     let b = best_of(counts);
-    let count = counts[b];
-    let best = Best::Pose(score_of(version, count), b % 4, 4 <= b);
+    let best = Pose {
+        score: score_of(version, counts[b]),
+        corner: b % 4,
+        reversed: 4 <= b,
+    };
     Correlated { best, counts }
 }
 
 // The agreement of marks with the sequence of a version. Refusals: 8, then 11.
-pub fn correlate(version: u32, marks: &[bool]) -> Correlated
-    ensures best { result.best ≡ correlate_answer version marks.now }
-    ensures counts { result.counts ≡ counts_beside result.best version marks.now }
+pub fn correlate(version: u32, marks: &[bool]) -> Result<Correlated, Refusal>
+    ensures { said result ≡ correlate_answer version marks.now }
 {
-    let VersionAnswer::Known(v) = Version::new(version) else {
-        return Correlated {
-            best: Best::Refused(8),
-            counts: [0u16; 8],
-        };
-    };
-    if marks.len() == v.positions() {
-        return best_pose(marks, v);
+    let v = Version::new(version)?;
+    if marks.len() != v.positions() {
+        return Err(Refusal::Marks);
     }
-    Correlated {
-        best: Best::Refused(11),
-        counts: [0u16; 8],
-    }
+    Ok(best_pose(marks, v))
 }

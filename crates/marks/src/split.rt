@@ -4,6 +4,9 @@ ghost use Rattle.std.specs.Float.Ieee.{lt};
 ghost use Rattle.marks.specs.Split.{total_to, put_side, sides_to, between, split_round};
 ghost use Rattle.marks.specs.Split.{SameSides, split_after, split, same_bits, settled_split};
 ghost use Rattle.marks.specs.Doors.{all_finite, split_answer};
+ghost use Rattle.refusal.specs.Numbers.{said};
+
+use refusal::Refusal;
 
 // Sums and counts of a window's numbers on the two sides of a threshold.
 #[derive(Drop)]
@@ -19,19 +22,10 @@ pub struct Sides {
 }
 
 // A split, and the number of the round at which it has settled, 2 to 4.
-#[derive(Drop)]
-pub struct Split {
-    pub at: f32,
+#[derive(Clone, Copy)]
+pub struct Settled {
+    pub split: f32,
     pub round: u32,
-}
-
-// What `split_window` answers.
-#[derive(Drop)]
-pub enum SplitAnswer {
-    // the split and its round
-    Settled(f32, u32),
-    // the number of the first check that fails
-    Refused(u32),
 }
 
 // One number put on its side.
@@ -64,10 +58,8 @@ fn sides_of(w: &[f32], t: f32) -> Sides
         hi: 0.0,
         hn: 0.0,
     };
-    let mut i = 0;
-    while i < w.len() {
-        s = put_side(t, w[i], s);
-        i += 1;
+    for x in w {
+        s = put_side(t, *x, s);
     }
     s
 }
@@ -98,10 +90,8 @@ fn total(w: &[f32]) -> f32
     ensures { result ≡ total_to w.now (length w.now - 1) }
 {
     let mut sum = w[0];
-    let mut i = 1;
-    while i < w.len() {
+    for i in 1..w.len() {
         sum = sum + w[i];
-        i += 1;
     }
     sum
 }
@@ -129,10 +119,8 @@ fn moved(w: &[f32], a: f32, b: f32) -> u32
     ensures { result ≡ 0 → SameSides w.now a b (length w.now) }
 {
     let mut n: u32 = 0;
-    let mut i = 0;
-    while i < w.len() {
-        n += differs(w[i], a, b);
-        i += 1;
+    for x in w {
+        n += differs(*x, a, b);
     }
     n
 }
@@ -183,7 +171,7 @@ fn same_bits(a: f32, b: f32) -> bool
 }
 
 // The split of a window at the round at which it has settled, with that round.
-fn settled_split(w: &[f32]) -> Split
+fn settled_split(w: &[f32]) -> Settled
     requires w_nonzero { 0 < length w.now }
     requires w_len_bound { length w.now ≤ 33 }
     ensures { result ≡ settled_split w.now }
@@ -192,14 +180,14 @@ fn settled_split(w: &[f32]) -> Split
     let a = split_round(w, m);
     let b = split_round(w, a);
     if same_bits(b, a) {
-        return Split { at: b, round: 2 };
+        return Settled { split: b, round: 2 };
     }
     let c = split_round(w, b);
     if same_bits(c, b) {
-        return Split { at: c, round: 3 };
+        return Settled { split: c, round: 3 };
     }
-    Split {
-        at: split_round(w, c),
+    Settled {
+        split: split_round(w, c),
         round: 4,
     }
 }
@@ -208,30 +196,22 @@ fn settled_split(w: &[f32]) -> Split
 fn all_finite(w: &[f32]) -> bool
     ensures { result ≡ all_finite w.now }
 {
-    let mut i = 0;
-    while i < w.len() {
-        if !ieee::is_finite(w[i]) {
-            return false;
-        }
-        i += 1;
-    }
-    true
+    w.iter().all(|x| ieee::is_finite(*x))
 }
 
 // The split of one window, 4 to 33 finite numbers, and the round at which it has settled.
-pub fn split_window(values: &[f32]) -> SplitAnswer
-    ensures { result ≡ split_answer values.now }
+pub fn split_window(values: &[f32]) -> Result<Settled, Refusal>
+    ensures { said result ≡ split_answer values.now }
 {
     let n = values.len();
     if n < 4 {
-        return SplitAnswer::Refused(9);
+        return Err(Refusal::Size);
     }
     if 33 < n {
-        return SplitAnswer::Refused(9);
+        return Err(Refusal::Size);
     }
     if !all_finite(values) {
-        return SplitAnswer::Refused(10);
+        return Err(Refusal::Value);
     }
-    let s = settled_split(values);
-    SplitAnswer::Settled(s.at, s.round)
+    Ok(settled_split(values))
 }

@@ -1,7 +1,7 @@
 -- Closed cases of the definitions, by computation: size 1. Assumes nothing.
 use mathlib.Core.Path.{◌≡◌, refl}
 use mathlib.Core.List.{[], ◌∷◌}
-use mathlib.Core.Bool.{false}
+use mathlib.Core.Bool.{Bool, true, false}
 use Prim.Native.Nat.{◌^◌}
 use lib.Ieee.{nan, binary64, round, of_bits, lt}
 use Rattle.ieee.specs.Ops.{abs}
@@ -9,18 +9,23 @@ use Rattle.ieee.specs.Constants.{1e-9, 1e-12}
 use Rattle.math.specs.Elimination.{forward_on, pivot_on}
 use Rattle.math.specs.Equations.{finished, solution, solve_answer}
 use Rattle.laws.specs.Said.{refuse}
-use Rattle.math.specs.declared.Found.TheVariants.{Nothing, Solved}
+use Rattle.std.proofs.Common.{Option, Some, None}
+
+-- whether there is one
+abbrev found : {A : Type 0} → Option A → Bool
+found (Some a) = true
+found None = false
 
 -- ---- size 1: a pivot of 1e-12 is solved, one of 9e-13 is none, a NaN is solved and gives a NaN
-pub pivot-least : (solution 1 (1e-12 ∷ []) (1e-9 ∷ [])).found ≡ Solved
+pub pivot-least : found (solution 1 (1e-12 ∷ []) (1e-9 ∷ [])) ≡ true
 unfolding solution finished forward_on pivot_on lt abs of_bits
 pivot-least = refl
 
-pub pivot-less : (solution 1 (round binary64 false 9 (10 ^ 13) ∷ []) (1e-9 ∷ [])).found ≡ Nothing
+pub pivot-less : solution 1 (round binary64 false 9 (10 ^ 13) ∷ []) (1e-9 ∷ []) ≡ None
 unfolding solution finished forward_on pivot_on lt abs of_bits round
 pivot-less = refl
 
-pub pivot-nan : (solution 1 (nan ∷ []) (1e-9 ∷ [])).found ≡ Solved
+pub pivot-nan : found (solution 1 (nan ∷ []) (1e-9 ∷ [])) ≡ true
 unfolding solution finished forward_on pivot_on lt abs of_bits
 pivot-nan = refl
 

@@ -16,8 +16,8 @@ use Rattle.laws.proofs.Steps.{take-replicate, drop-replicate}
 use borrow.Author.Tests.{eq-eqb, ne_eqb, le-leb, lt-leb, lt-ltb, le-ltb}
 use Rattle.laws.specs.Check.{or_refuse}
 use Rattle.laws.specs.Said.{refuse}
-use Rattle.math.specs.Answers.{solution_said}
-use Rattle.math.specs.declared.Solution.{Solution}
+use Rattle.refusal.specs.Numbers.{said_some}
+use Rattle.std.proofs.Common.{Option, Ok}
 use Rattle.math.specs.Equations.{zero_cells, without, solution, solve_answer, normal, fitted, fit_answer}
 
 -- ---- lists of +0
@@ -49,10 +49,10 @@ size_ok : (n : ℕ) → 1 ≤ n → n ≤ 8 → (leb 1 n && leb n 8) ≡ true
 size_ok n h l = ap (λ (b : Bool). b && leb n 8) (le-leb 1 n h) ∙ le-leb n 8 l
 
 solve-by : (n : ℕ) (a b : List Float) (s t : Bool) → (leb 1 n && leb n 8) ≡ s → (eqb (length a) (n * n) && eqb (length b) n) ≡ t
-    → solve_answer n a b ≡ or_refuse s (refuse 9) (or_refuse t (refuse 9) (solution_said (solution n a b)))
+    → solve_answer n a b ≡ or_refuse s (refuse 9) (or_refuse t (refuse 9) (said_some (Ok (solution n a b))))
 unfolding solve_answer
 solve-by n a b s t e f =
-    let last = solution_said (solution n a b) in
+    let last = said_some (Ok (solution n a b)) in
     ap (λ (z : Bool). or_refuse z (refuse 9) (or_refuse (eqb (length a) (n * n) && eqb (length b) n) (refuse 9) last)) e
     ∙ ap (λ (z : Bool). or_refuse s (refuse 9) (or_refuse z (refuse 9) last)) f
 
@@ -71,15 +71,15 @@ solve-right n a b h l e =
     (ap (λ (z : Bool). eqb (length a) (n * n) && z) (ne_eqb _ _ e) ∙ and-false (eqb (length a) (n * n))))
 
 pub solve-pass : (n : ℕ) (a b : List Float) → 1 ≤ n → n ≤ 8 → length a ≡ n * n → length b ≡ n
-    → solution_said (solution n a b) ≡ solve_answer n a b
+    → said_some (Ok (solution n a b)) ≡ solve_answer n a b
 solve-pass n a b h l e f =
     sym (solve-by n a b true true (size_ok n h l) (ap (λ (z : Bool). z && eqb (length b) n) (eq-eqb _ _ e) ∙ eq-eqb _ _ f))
 
 fit-by : (n : ℕ) (a b : List Float) (s t : Bool) → (leb 1 n && leb n 8) ≡ s → eqb (length a) (length b * n) ≡ t
-    → fit_answer n a b ≡ or_refuse s (refuse 9) (or_refuse t (refuse 9) (solution_said (fitted n a b)))
+    → fit_answer n a b ≡ or_refuse s (refuse 9) (or_refuse t (refuse 9) (said_some (Ok (fitted n a b))))
 unfolding fit_answer
 fit-by n a b s t e f =
-    let last = solution_said (fitted n a b) in
+    let last = said_some (Ok (fitted n a b)) in
     ap (λ (z : Bool). or_refuse z (refuse 9) (or_refuse (eqb (length a) (length b * n)) (refuse 9) last)) e
     ∙ ap (λ (z : Bool). or_refuse s (refuse 9) (or_refuse z (refuse 9) last)) f
 
@@ -92,19 +92,19 @@ fit-high n a b h = sym (fit-by n a b false _ (size-high n h) refl)
 pub fit-lengths : (n : ℕ) (a b : List Float) → 1 ≤ n → n ≤ 8 → (length a ≡ length b * n → ⊥) → refuse 9 ≡ fit_answer n a b
 fit-lengths n a b h l e = sym (fit-by n a b true false (size_ok n h l) (ne_eqb _ _ e))
 
-pub fit-few : (n : ℕ) (a b : List Float) → 1 ≤ n → n ≤ 8 → length a ≡ length b * n → length b < n → solution_said without ≡ fit_answer n a b
+pub fit-few : (n : ℕ) (a b : List Float) → 1 ≤ n → n ≤ 8 → length a ≡ length b * n → length b < n → said_some (Ok without) ≡ fit_answer n a b
 unfolding fitted
 fit-few n a b h l e f =
     sym (fit-by n a b true true (size_ok n h l) (eq-eqb _ _ e)
-    ∙ ap (λ (z : Bool). solution_said (cond z without (solution n (normal n a b).m (normal n a b).v))) (lt-ltb _ _ f))
+    ∙ ap (λ (z : Bool). said_some (Ok (cond z without (solution n (normal n a b).m (normal n a b).v)))) (lt-ltb _ _ f))
 
-pub fit-pass : (n : ℕ) (a b : List Float) (r : Solution) → 1 ≤ n → n ≤ 8 → length a ≡ length b * n → n ≤ length b
-    → r ≡ solution n (normal n a b).m (normal n a b).v → solution_said r ≡ fit_answer n a b
+pub fit-pass : (n : ℕ) (a b : List Float) (r : Option (List Float)) → 1 ≤ n → n ≤ 8 → length a ≡ length b * n → n ≤ length b
+    → r ≡ solution n (normal n a b).m (normal n a b).v → said_some (Ok r) ≡ fit_answer n a b
 unfolding fitted
 fit-pass n a b r h l e f q =
-    ap solution_said q
+    ap (λ (r : Option (List Float)). said_some (Ok r)) q
     ∙ sym (fit-by n a b true true (size_ok n h l) (eq-eqb _ _ e)
-    ∙ ap (λ (z : Bool). solution_said (cond z without (solution n (normal n a b).m (normal n a b).v))) (le-ltb _ _ f))
+    ∙ ap (λ (z : Bool). said_some (Ok (cond z without (solution n (normal n a b).m (normal n a b).v)))) (le-ltb _ _ f))
 
 -- 'no remainder, and so many' is 'so many times n'
 pub not-whole : (L n m : ℕ) → (L % n ≡ 0 → ⊥) → L ≡ m * n → ⊥

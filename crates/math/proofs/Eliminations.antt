@@ -1,15 +1,13 @@
 -- How each definition goes on by one step, and ends.
 --     row_step, row-end, swap_step, swap-end, pivot-step, pivot-end, clear_step, clear-end, clear_none, clear-some, clear-turn
---     places in the matrix: row_in, place8, pivot-next, swap-start, row8, arranged-same, arranged-other, forward-end, forward-none,
+--     the pivot and the rows: pivot-next, swap-start, arranged-same, arranged-other, forward-end, forward-none,
 --     forward-next, less-step, less-end, back_step, back_end, forward-start
 -- Assumes nothing.
 use mathlib.Core.Path.{◌≡◌, refl, sym, ap, ◌∙◌, subst}
 use mathlib.Core.List.{List}
 use mathlib.Core.Bool.{Bool, true, false, cond}
 use Prim.Native.Nat.{ℕ, zero, suc, ◌+◌, ◌-◌, ◌*◌, ◌≤◌, ◌<◌}
-use native.Mathlib.Nat.{le_trans, mul-le-mul_right, suc-mul, lt_of_lt_of_le, le-add_right}
 use native.Mathlib.Omega.{arith}
-use lib.Arith.{digits_lt}
 use lib.ListN.{set}
 use lib.Ieee.{Float, binary64, sub, mul, div, lt, eq, of_bits}
 use Rattle.ieee.specs.Ops.{abs}
@@ -81,13 +79,7 @@ pub clear-turn : (n c : ℕ) (e : Float) (r : ℕ) (s s' z : System) → r < n �
     → clear_on n c e (n - (r + 1)) (r + 1) s' ≡ z
 clear-turn n c e r s s' z h p q = ap (clear_on n c e (n - (r + 1)) (r + 1)) p ∙ sym (clear_step n c e r s h) ∙ q
 
--- ---- places in the matrix
-pub row_in : {r n : ℕ} → r < n → r * n + n ≤ n * n
-row_in {r} {n} h = le_trans (native.Mathlib.Nat.le_of_eq (sym (suc-mul r n))) (mul-le-mul_right n h)
-
-pub place8 : (r c n L : ℕ) → r < n → c < n → n ≤ 8 → n * n ≤ L → (r * n + c < L) × (r * n + c < 64)
-place8 r c n L h k e l = (lt_of_lt_of_le (digits_lt h k) l, lt_of_lt_of_le (digits_lt h k) (native.Mathlib.Nat.mul-le-mul e e))
-
+-- ---- the pivot and the rows
 pub pivot-next : (a : List Float) (n c r p p' z : ℕ) (x y : Float) → r < n → p < n → x ≡ abs (number_at a (r * n + c))
     → y ≡ abs (number_at a (p * n + c)) → p' ≡ cond (lt y x) r p → pivot_on a n c (n - r) r p ≡ z
     → (p' < n) × (pivot_on a n c (n - (r + 1)) (r + 1) p' ≡ z)
@@ -104,10 +96,6 @@ pivot-next a n c r p p' z x y h k ex ey ep e = (
 
 pub swap-start : (i j n : ℕ) (a : List Float) → swap_on i j (n - 0) 0 a ≡ swap_on i j n 0 a
 swap-start i j n a = ap (λ (d : ℕ). swap_on i j d 0 a) (native.Mathlib.Nat.sub-zero n)
-
--- a row, and all of its places, within a matrix of L entries at 1e-12
-pub row8 : (r n L : ℕ) → r < n → n ≤ 8 → n * n ≤ L → (r * n + n ≤ L) × (r * n ≤ 64)
-row8 r n L h e l = (le_trans (row_in h) l, le_trans (le_trans (le-add_right (r * n) n) (row_in h)) (native.Mathlib.Nat.mul-le-mul e e))
 
 pub arranged-same : (n c p : ℕ) (a b : List Float) → p ≡ c → sys a b ≡ arranged n c p (sys a b)
 unfolding arranged

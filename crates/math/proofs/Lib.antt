@@ -1,3 +1,4 @@
+pub mod Lists
 pub mod Eliminations
 pub mod Doors
 pub mod Samples

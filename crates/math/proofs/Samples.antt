@@ -11,8 +11,7 @@ use Rattle.math.specs.Elimination.{System, forward_on, back_on}
 use Rattle.math.specs.Elimination.{sys}
 use Rattle.ieee.specs.Constants.{1e-9}
 use Rattle.math.specs.Equations.{matrix_cell, zero_cells, without, finished, solution, add_cells, add_line, add_lines, add_rows, nudged, normal}
-use Rattle.math.specs.declared.Found.TheVariants.{Solved}
-use Rattle.math.specs.declared.Solution.{Solution}
+use Rattle.std.proofs.Common.{Option, Some}
 use Rattle.laws.proofs.Steps.{on, done, from_zero}
 use Rattle.math.proofs.Doors.{take-zeros, drop-zeros}
 
@@ -87,19 +86,19 @@ run_none n a b a' b' r e f = sym (ap (finished n) (sym e) ∙ ap (λ (r : Bool).
 
 pub run-some : (n : ℕ) (a b a' b' y : List Float) (r : Bool) → n ≤ 8 → record { ok = r; left = sys a' b' } ≡ forward_on n n 0 (sys a b)
     → r ≡ true → y ≡ back_on (sys a' b') n n (take n (zero_cells 8))
-    → record { found = Solved; x = y ++ drop n (zero_cells 8) } ≡ solution n a b
+    → Some (y ++ drop n (zero_cells 8)) ≡ solution n a b
 unfolding solution finished
 run-some n a b a' b' y r h e f g =
-    let shape : List Float → List Float → Solution = λ y z. record { found = Solved; x = y ++ z } in
+    let shape : List Float → List Float → Option (List Float) = λ y z. Some (y ++ z) in
     ap (λ (z : List Float). shape y z) (drop-zeros n 8 h)
     ∙ ap (λ (y : List Float). shape y (zero_cells (8 - n))) (g ∙ ap (back_on (sys a' b') n n) (take-zeros n 8 h))
     ∙ sym (ap (finished n) (sym e) ∙ ap (λ (r : Bool). finished n record { ok = r; left = sys a' b' }) f)
 
 -- ---- the fit
-pub run-copied : (n : ℕ) (a b m v : List Float) (r : Solution) → m ≡ a → v ≡ b → r ≡ solution n m v → r ≡ solution n a b
+pub run-copied : (n : ℕ) (a b m v : List Float) (r : Option (List Float)) → m ≡ a → v ≡ b → r ≡ solution n m v → r ≡ solution n a b
 run-copied n a b m v r e f q = q ∙ ap (λ (m : List Float). solution n m v) e ∙ ap (solution n a) f
 
-pub fit_is : (n : ℕ) (basis targets m v m' v' m'' : List Float) (r : Solution) → m ≡ zero_cells (n * n) → v ≡ zero_cells n
+pub fit_is : (n : ℕ) (basis targets m v m' v' m'' : List Float) (r : Option (List Float)) → m ≡ zero_cells (n * n) → v ≡ zero_cells n
     → sys m' v' ≡ add_rows basis targets n (length targets) 0 (sys m v) → m'' ≡ nudged n n 0 m' → r ≡ solution n m'' v'
     → r ≡ solution n (normal n basis targets).m (normal n basis targets).v
 unfolding normal

@@ -1,6 +1,6 @@
 -- `solve` and `least_squares`, by rules 26 and 27 and in the table of doors (refusal 9). Elimination itself is in
 -- `Elimination`. Definitions only. Assumes nothing.
-use Rattle.std.specs.Prelude.{List, ◌++◌, cond, ◌&&◌, ℕ, zero, suc, ◌+◌, ◌-◌, ◌*◌, leb, ltb, eqb, length, set, replicate, Float}
+use Rattle.std.specs.Prelude.{List, ◌++◌, Option, Some, None, Ok, cond, ◌&&◌, ℕ, zero, suc, ◌+◌, ◌-◌, ◌*◌, leb, ltb, eqb, length, set, replicate, Float}
 use Rattle.std.specs.Float.{binary64}
 use Rattle.std.specs.Float.Ieee.{add, mul, of_bits}
 use Rattle.ieee.specs.Constants.{1e-9}
@@ -8,29 +8,27 @@ use Rattle.math.specs.Lists.{number_at}
 use Rattle.math.specs.Elimination.{System, sys, Outcome, forward_on, back_on}
 use Rattle.laws.specs.Check.{or_refuse}
 use Rattle.laws.specs.Said.{Said, refuse}
-use Rattle.math.specs.Answers.{solution_said}
-use Rattle.math.specs.declared.Found.TheVariants.{Nothing, Solved}
-use Rattle.math.specs.declared.Solution.{Solution}
+use Rattle.refusal.specs.Numbers.{said_some}
 
 -- +0, n times
 abbrev pub zero_cells : ℕ → List Float
 zero_cells n = replicate n (of_bits binary64 0)
 
--- no solution: eight places of +0
-abbrev pub without : Solution
-without = record { found = Nothing; x = zero_cells 8 }
+-- no solution
+abbrev pub without : Option (List Float)
+without = None
 
 -- n numbers, and +0 in the places past them
-abbrev pub solved : ℕ → List Float → Solution
-solved n x = record { found = Solved; x = x ++ zero_cells (8 - n) }
+abbrev pub solved : ℕ → List Float → Option (List Float)
+solved n x = Some (x ++ zero_cells (8 - n))
 
 -- what elimination leaves, solved from the last row to the first
-unfoldable pub finished : ℕ → Outcome → Solution
+unfoldable pub finished : ℕ → Outcome → Option (List Float)
 unfolding back_on
 finished n o = cond o.ok (solved n (back_on o.left n n (zero_cells n))) without
 
 -- the solution of n equations, or none
-unfoldable pub solution : ℕ → List Float → List Float → Solution
+unfoldable pub solution : ℕ → List Float → List Float → Option (List Float)
 unfolding finished forward_on
 solution n a b = finished n (forward_on n n 0 (sys a b))
 
@@ -40,7 +38,7 @@ unfolding solution
 solve_answer n a b =
     or_refuse (leb 1 n && leb n 8) (refuse 9)
     (or_refuse (eqb (length a) (n * n) && eqb (length b) n) (refuse 9)
-    (solution_said (solution n a b)))
+    (said_some (Ok (solution n a b))))
 
 -- ---- least squares: samples of n values each, one after the other in basis, and a target for each
 -- place i * n + j of the matrix, with the product of the sample's values i and j added; the sample's values start at w
@@ -84,7 +82,7 @@ normal n basis targets =
     sys (nudged n n 0 s.m) s.v
 
 -- the coefficients, or none; none too where there are fewer samples than terms
-unfoldable pub fitted : ℕ → List Float → List Float → Solution
+unfoldable pub fitted : ℕ → List Float → List Float → Option (List Float)
 unfolding normal solution
 fitted n basis targets =
     cond (ltb (length targets) n) without (solution n (normal n basis targets).m (normal n basis targets).v)
@@ -95,4 +93,4 @@ unfolding fitted
 fit_answer n basis targets =
     or_refuse (leb 1 n && leb n 8) (refuse 9)
     (or_refuse (eqb (length basis) (length targets * n)) (refuse 9)
-    (solution_said (fitted n basis targets)))
+    (said_some (Ok (fitted n basis targets))))

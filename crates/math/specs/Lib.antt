@@ -1,4 +1,3 @@
 pub mod Lists
-pub mod Answers
 pub mod Elimination
 pub mod Equations

@@ -12,14 +12,12 @@ fn pivot_row(a: &[f64], n: usize, c: usize) -> usize
     ensures { (result ≡ pivot a.now n c) × (result < n) }
 {
     let mut p = c;
-    let mut r = c + 1;
-    while r < n {
+    for r in c + 1..n {
         let x = ieee::abs64(a[r * n + c]);
         let y = ieee::abs64(a[p * n + c]);
         if y < x {
             p = r;
         }
-        r += 1;
     }
     p
 }
@@ -30,12 +28,8 @@ fn swap_rows(a: &mut [f64], i: usize, j: usize, n: usize)
     requires n_in_bounds_2 { j + n ≤ length a.old }
     ensures { a.new ≡ swap_on i j n 0 a.old }
 {
-    let mut k = 0usize;
-    while k < n {
-        let x = a[i + k];
-        a[i + k] = a[j + k];
-        a[j + k] = x;
-        k += 1;
+    for k in 0..n {
+        a.swap(i + k, j + k);
     }
 }
 
@@ -46,10 +40,8 @@ fn row_less(a: &mut [f64], r: usize, c: usize, f: f64, k0: usize, n: usize)
     requires n_in_bounds_2 { c + n ≤ length a.old }
     ensures { a.new ≡ row_less r c f (n - k0) k0 a.old }
 {
-    let mut k = k0;
-    while k < n {
-        a[r + k] = a[r + k] - f * a[c + k];
-        k += 1;
+    for k in k0..n {
+        a[r + k] -= f * a[c + k];
     }
 }
 
@@ -68,7 +60,7 @@ fn clear_row(a: &mut [f64], b: &mut [f64], n: usize, c: usize, d: f64, r: usize)
         return;
     }
     row_less(a, r * n, c * n, f, c, n);
-    b[r] = b[r] - f * b[c];
+    b[r] -= f * b[c];
 }
 
 // Eliminates column c from the rows below its diagonal.
@@ -82,10 +74,8 @@ fn clear_below(a: &mut [f64], b: &mut [f64], n: usize, c: usize)
         (sys a.old b.old) }
 {
     let d = a[c * n + c];
-    let mut r = c + 1;
-    while r < n {
+    for r in c + 1..n {
         clear_row(a, b, n, c, d, r);
-        r += 1;
     }
 }
 
@@ -103,9 +93,7 @@ fn arrange(a: &mut [f64], b: &mut [f64], n: usize, c: usize, p: usize)
         return;
     }
     swap_rows(a, c * n, p * n, n);
-    let x = b[c];
-    b[c] = b[p];
-    b[p] = x;
+    b.swap(c, p);
 }
 
 // Makes the matrix upper triangular; whether every pivot's magnitude was at least 1e-12, or a NaN.
@@ -116,8 +104,7 @@ pub fn forward(a: &mut [f64], b: &mut [f64], n: usize) -> bool
     ensures { record { ok = result; left = sys a.new b.new }
         ≡ forward_on n n 0 (sys a.old b.old) }
 {
-    let mut c = 0usize;
-    while c < n {
+    for c in 0..n {
         let p = pivot_row(a, n, c);
         let x = ieee::abs64(a[p * n + c]);
         if x < 1e-12 {
@@ -125,7 +112,6 @@ pub fn forward(a: &mut [f64], b: &mut [f64], n: usize) -> bool
         }
         arrange(a, b, n, c, p);
         clear_below(a, b, n, c);
-        c += 1;
     }
     true
 }
@@ -138,10 +124,8 @@ fn less_row(a: &[f64], x: &[f64], w: usize, k0: usize, n: usize, s0: f64) -> f64
     ensures { result ≡ less_on a.now x.now w (n - k0) k0 s0 }
 {
     let mut s = s0;
-    let mut k = k0;
-    while k < n {
-        s = s - a[w + k] * x[k];
-        k += 1;
+    for k in k0..n {
+        s -= a[w + k] * x[k];
     }
     s
 }
@@ -155,11 +139,8 @@ pub fn back(a: &[f64], b: &[f64], x: &mut [f64], n: usize)
     ensures { x.new
         ≡ back_on (sys a.now b.now) n n x.old }
 {
-    let mut d = n;
-    while d > 0 {
-        let r = d - 1;
+    for r in (0..n).rev() {
         let s = less_row(a, x, r * n, r + 1, n, b[r]);
         x[r] = s / a[r * n + r];
-        d = r;
     }
 }

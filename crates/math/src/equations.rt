@@ -4,42 +4,26 @@ ghost use Rattle.math.specs.Elimination.{sys};
 ghost use Rattle.math.specs.Equations.{zero_cells, solution, add_cells, add_lines, add_rows};
 ghost use Rattle.math.specs.Equations.{nudged, normal};
 
-// Copies a list to one of as many places.
-fn copy(to: &mut [f64], from: &[f64])
-    requires { length to.old ≡ length from.now }
-    ensures { to.new ≡ from.now }
-{
-    let mut i = 0;
-    while i < from.len() {
-        to[i] = from[i];
-        i += 1;
-    }
-}
+use crate::elimination;
 
-// The solution of n equations, by elimination on the lists that hold them.
-pub fn run(a: &mut [f64], b: &mut [f64], n: usize) -> crate::Solution
+// The solution of n equations, by elimination on the lists that hold them: n numbers, and +0 in the
+// places that it does not use.
+pub fn run(a: &mut [f64], b: &mut [f64], n: usize) -> Option<[f64; 8]>
     requires n_bound { n ≤ 8 }
     requires a_len { length a.old ≡ n * n }
     requires b_len { length b.old ≡ n }
     ensures { result ≡ solution n a.old b.old }
 {
+    if !elimination::forward(a, b, n) {
+        return None;
+    }
     let mut x = [0f64; 8];
-    let ok = crate::elimination::forward(a, b, n);
-    if ok {
-        crate::elimination::back(a, b, &mut x[..n], n);
-        return crate::Solution {
-            found: crate::Found::Solved,
-            x,
-        };
-    }
-    crate::Solution {
-        found: crate::Found::Nothing,
-        x,
-    }
+    elimination::back(a, b, &mut x[..n], n);
+    Some(x)
 }
 
 // The same on copies, in lists of as many places.
-fn run_copy(m: &mut [f64], v: &mut [f64], a: &[f64], b: &[f64], n: usize) -> crate::Solution
+fn run_copy(m: &mut [f64], v: &mut [f64], a: &[f64], b: &[f64], n: usize) -> Option<[f64; 8]>
     requires n_bound { n ≤ 8 }
     requires a_len { length a.now ≡ n * n }
     requires b_len { length b.now ≡ n }
@@ -47,13 +31,13 @@ fn run_copy(m: &mut [f64], v: &mut [f64], a: &[f64], b: &[f64], n: usize) -> cra
     requires v_len { length v.old ≡ n }
     ensures { result ≡ solution n a.now b.now }
 {
-    copy(m, a);
-    copy(v, b);
+    m.copy_from_slice(a);
+    v.copy_from_slice(b);
     run(m, v, n)
 }
 
 // The same with room for the copies: less of it for up to four equations.
-pub(crate) fn on_copies(a: &[f64], b: &[f64], n: usize) -> crate::Solution
+pub(crate) fn on_copies(a: &[f64], b: &[f64], n: usize) -> Option<[f64; 8]>
     requires n_bound { n ≤ 8 }
     requires a_len { length a.now ≡ n * n }
     requires b_len { length b.now ≡ n }
@@ -79,10 +63,8 @@ fn add_cells(m: &mut [f64], basis: &[f64], w: usize, n: usize, i: usize)
     ensures { m.new ≡ add_cells basis.now w n i n 0 m.old }
 {
     let f = basis[w + i];
-    let mut j: usize = 0;
-    while j < n {
-        m[i * n + j] = m[i * n + j] + f * basis[w + j];
-        j += 1;
+    for j in 0..n {
+        m[i * n + j] += f * basis[w + j];
     }
 }
 
@@ -95,11 +77,9 @@ fn add_lines(m: &mut [f64], v: &mut [f64], basis: &[f64], w: usize, t: f64, n: u
     ensures { sys m.new v.new
         ≡ add_lines basis.now w t n n 0 (sys m.old v.old) }
 {
-    let mut i: usize = 0;
-    while i < n {
+    for i in 0..n {
         add_cells(m, basis, w, n, i);
-        v[i] = v[i] + basis[w + i] * t;
-        i += 1;
+        v[i] += basis[w + i] * t;
     }
 }
 
@@ -113,10 +93,8 @@ fn add_rows(m: &mut [f64], v: &mut [f64], basis: &[f64], targets: &[f64], n: usi
         ≡ add_rows basis.now targets.now n
         (length targets.now) 0 (sys m.old v.old) }
 {
-    let mut r: usize = 0;
-    while r < targets.len() {
-        add_lines(m, v, basis, r * n, targets[r], n);
-        r += 1;
+    for (r, t) in targets.iter().enumerate() {
+        add_lines(m, v, basis, r * n, *t, n);
     }
 }
 
@@ -126,10 +104,8 @@ fn nudge(m: &mut [f64], n: usize)
     requires n_in_bounds { n * n ≤ length m.old }
     ensures { m.new ≡ nudged n n 0 m.old }
 {
-    let mut i: usize = 0;
-    while i < n {
-        m[i * n + i] = m[i * n + i] + 1e-9;
-        i += 1;
+    for i in 0..n {
+        m[i * n + i] += 1e-9;
     }
 }
 
@@ -140,7 +116,7 @@ pub(crate) fn fit(
     basis: &[f64],
     targets: &[f64],
     n: usize,
-) -> crate::Solution
+) -> Option<[f64; 8]>
     requires n_bound { n ≤ 8 }
     requires m_value { m.old ≡ zero_cells (n * n) }
     requires v_value { v.old ≡ zero_cells n }

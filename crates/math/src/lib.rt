@@ -6,82 +6,52 @@ pub mod elimination;
 pub mod equations;
 
 ghost use Rattle.std.specs.Prelude.{◌≡◌};
-ghost use Rattle.laws.specs.Said.{refuse};
-ghost use Rattle.math.specs.Answers.{solution_said};
+ghost use Rattle.refusal.specs.Numbers.{said_some};
 ghost use Rattle.math.specs.Equations.{solve_answer, fit_answer};
 
-// What a door of equations answers.
-#[derive(Drop)]
-pub enum Found {
-    // the number of a refusal
-    Refused(u8),
-    // no solution
-    Nothing,
-    // a solution
-    Solved,
-}
+use refusal::Refusal;
 
-// The solution's numbers, +0 in the places that it does not use, and the answer. The numbers stand
-// first so that a copy of the whole moves them by pairs.
-#[derive(Drop)]
-pub struct Solution {
-    pub x: [f64; 8],
-    pub found: Found,
-}
-
-// A refusal of equations.
-fn refused() -> Solution
-    ensures { solution_said result ≡ refuse 9 }
-{
-    Solution {
-        found: Found::Refused(9),
-        x: [0f64; 8],
-    }
-}
-
-// Solves n equations; a is their matrix row by row, b their right side.
-pub fn solve(a: &[f64], b: &[f64], n: usize) -> Solution
-    ensures { solution_said result ≡ solve_answer n a.now b.now }
+// Solves n equations; a is their matrix row by row, b their right side. A solution's numbers stand
+// first, then +0.
+pub fn solve(a: &[f64], b: &[f64], n: usize) -> Result<Option<[f64; 8]>, Refusal>
+    ensures { said_some result ≡ solve_answer n a.now b.now }
 {
     if n < 1 {
-        return refused();
+        return Err(Refusal::Size);
     }
     if 8 < n {
-        return refused();
+        return Err(Refusal::Size);
     }
     if a.len() != n * n {
-        return refused();
+        return Err(Refusal::Size);
     }
     if b.len() != n {
-        return refused();
+        return Err(Refusal::Size);
     }
-    equations::on_copies(a, b, n)
+    Ok(equations::on_copies(a, b, n))
 }
 
 // Fits n coefficients to samples: the samples' n values one after the other, a target for each.
-pub fn least_squares(basis: &[f64], targets: &[f64], n: usize) -> Solution
-    ensures { solution_said result ≡ fit_answer n basis.now targets.now }
+pub fn least_squares(basis: &[f64], targets: &[f64], n: usize) -> Result<Option<[f64; 8]>, Refusal>
+    ensures { said_some result ≡ fit_answer n basis.now targets.now }
 {
     if n < 1 {
-        return refused();
+        return Err(Refusal::Size);
     }
     if 8 < n {
-        return refused();
+        return Err(Refusal::Size);
     }
     if basis.len() % n != 0 {
-        return refused();
+        return Err(Refusal::Size);
     }
     if basis.len() / n != targets.len() {
-        return refused();
+        return Err(Refusal::Size);
     }
     if targets.len() < n {
-        return Solution {
-            found: Found::Nothing,
-            x: [0f64; 8],
-        };
+        return Ok(None);
     }
     let cells = n * n;
     let mut m = [0f64; 64];
     let mut v = [0f64; 8];
-    equations::fit(&mut m[..cells], &mut v[..n], basis, targets, n)
+    Ok(equations::fit(&mut m[..cells], &mut v[..n], basis, targets, n))
 }

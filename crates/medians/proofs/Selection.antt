@@ -1,7 +1,7 @@
 -- The steps of a selection. Assumes nothing.
 --   select-one                         a list of one value
 --   select-front, select-tail, select-back, select-mid    the part before, the part after, and the place between
---   front-ok, back-ok, front_length    the parts are shorter and can be ordered
+--   front-ok, back-ok                  the parts are shorter and can be ordered
 use mathlib.Core.Path.{◌≡◌, refl, sym, ap, ◌∙◌, subst}
 use mathlib.Core.Logic.{◌⊎◌, inl, inr}
 use mathlib.Core.List.{List, [], ◌++◌, append-nil}
@@ -165,6 +165,3 @@ module _ (s t : List Float) (i e : ℕ) (n : Numbers s) (d : Parted s t i e) whe
       subst (λ (z : List Float). Selected s (take i t ++ (u ++ z)) k r) (sym e)
       (subst (λ (z : List Float). Selected s (take i t ++ z) k r) (sym (append-nil u))
       (select-back u k r h l (subst (λ (z : List Float). Selected z u (k - i) r) whole-tail c)))
-
-  pub front_length : e ≡ length (take e t)
-  front_length = sym (length-take-le e t (omega (arith, d.fewer, d.long)))

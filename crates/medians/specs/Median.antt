@@ -7,8 +7,6 @@ use Rattle.ieee.specs.Ops.{abs, finite, plain}
 use Rattle.ieee.specs.Constants.{1·4826, 0·5}
 use Rattle.laws.specs.Check.{or_refuse}
 use Rattle.laws.specs.Said.{Said, refuse, none, give}
-use Rattle.medians.specs.declared.Answer.{Answer}
-use Rattle.medians.specs.declared.Answer.TheVariants.{Number, Refused}
 
 -- how many values pass a test
 unfoldable pub count_in : (Float → Bool) → List Float → ℕ
@@ -100,11 +98,6 @@ median_answer s = checked s (give (median s))
 unfoldable pub mad_sigma_answer : List Float → Said Float
 unfolding checked mad_sigma
 mad_sigma_answer s = checked s (give (mad_sigma s))
-
--- what each case of `Answer` says
-abbrev pub said : Answer → Said Float
-said (Number x) = give x
-said (Refused k) = refuse k
 
 -- what `median` leaves in the lent list: the same values in some order where it gives one, else the list as it was
 abbrev pub Left : Said Float → List Float → List Float → Type 0

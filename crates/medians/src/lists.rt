@@ -1,6 +1,6 @@
-// What is done with each value of a list: the doors' test, copies, distances; then the median
+// What is done with each value of a list: the doors' test, distances; then the median
 // distance from the median.
-ghost use Rattle.std.specs.Prelude.{◌≡◌, true, ◌&&◌, map, length};
+ghost use Rattle.std.specs.Prelude.{◌≡◌, true, map, length};
 ghost use Rattle.medians.specs.Median.{Numbers, all_usable, usable, away, mad_sigma};
 
 use crate::select;
@@ -9,17 +9,7 @@ use crate::select;
 fn fit(x: f32) -> bool
     ensures { result ≡ usable x }
 {
-    if ieee::is_finite(x) {
-        return f32::to_bits(x) != 0x8000_0000;
-    }
-    false
-}
-
-// Whether both are true.
-fn both(a: bool, b: bool) -> bool
-    ensures { result ≡ (a && b) }
-{
-    if a { b } else { false }
+    ieee::is_finite(x) && x.to_bits() != 0x8000_0000
 }
 
 // Whether all values are finite and not -0. It looks at every value, with no way out between.
@@ -27,24 +17,10 @@ pub(crate) fn all_fit(v: &[f32]) -> bool
     ensures { (result ≡ all_usable v.now) × (result ≡ true → Numbers v.now) }
 {
     let mut ok = true;
-    let mut i: usize = 0;
-    while i < v.len() {
-        ok = both(ok, fit(v[i]));
-        i += 1;
+    for x in v {
+        ok &= fit(*x);
     }
     ok
-}
-
-// Copies a list to one of as many places.
-fn copy(to: &mut [f32], from: &[f32])
-    requires { length to.old ≡ length from.now }
-    ensures { to.new ≡ from.now }
-{
-    let mut i = 0;
-    while i < from.len() {
-        to[i] = from[i];
-        i += 1;
-    }
 }
 
 // The distance of x from c.
@@ -59,10 +35,8 @@ fn distances(to: &mut [f32], from: &[f32], c: f32)
     requires { length to.old ≡ length from.now }
     ensures { to.new ≡ map (away c) from.now }
 {
-    let mut i = 0;
-    while i < from.len() {
-        to[i] = distance(c, from[i]);
-        i += 1;
+    for (i, x) in from.iter().enumerate() {
+        to[i] = distance(c, *x);
     }
 }
 
@@ -73,7 +47,7 @@ pub(crate) fn spread(work: &mut [f32], values: &[f32]) -> f32
     requires numbers { Numbers values.now }
     ensures { result ≡ mad_sigma values.now }
 {
-    copy(work, values);
+    work.copy_from_slice(values);
     let c = select::middle(work);
     distances(work, values, c);
     let d = select::middle(work);

@@ -1,7 +1,6 @@
 // The median of f32 values by a recursive selection, on lists that can be ordered.
 ghost use Rattle.std.specs.Prelude.{◌≡◌, true, false, cond, ◌<◌, ◌≤◌, length};
 ghost use Rattle.std.specs.Float.Ieee as Ieee;
-ghost use Rattle.math.specs.Lists.{swapped};
 ghost use Rattle.medians.specs.Median.{SameValues, Numbers, all_usable, median};
 ghost use Rattle.medians.specs.Inner.{Stop, Floor, Risen, Sunk, Parting, Parted, Selected, Largest, Turned};
 
@@ -19,6 +18,7 @@ fn up(v: &[f32], from: usize, p: f32) -> usize
     requires { Stop v.now from p }
     ensures { Risen v.now from p result }
 {
+    // Kept: the pivot ends the walk without a test of the bound, which a `for` or `position` has.
     let mut i = from;
     while v[i] < p {
         i += 1;
@@ -32,22 +32,12 @@ fn down(v: &[f32], from: usize, p: f32) -> usize
     requires floor { Floor v.now from p }
     ensures { Sunk v.now from p result }
 {
+    // Kept: it walks back to a value that ends it, without the test of the bound that a `for` has.
     let mut e = from;
     while p < v[e - 1] {
         e -= 1;
     }
     e
-}
-
-// Exchanges two places.
-fn swap(v: &mut [f32], i: usize, j: usize)
-    requires i_in_bounds { i < length v.old }
-    requires j_in_bounds { j < length v.old }
-    ensures { v.new ≡ swapped v.old i j }
-{
-    let x = v[i];
-    v[i] = v[j];
-    v[j] = x;
 }
 
 // One round of a partition by p: a value on either side that belongs on the other changes places.
@@ -62,7 +52,7 @@ fn turn(v: &mut [f32], i: usize, e: usize, p: f32) -> Split
         return Split { i: a, e: b };
     }
     let d = b - 1;
-    swap(v, a, d);
+    v.swap(a, d);
     Split { i: a + 1, e: d }
 }
 
@@ -72,6 +62,7 @@ fn partition(v: &mut [f32]) -> Split
     ensures { Parted v.old v.new result.i result.e }
 {
     let p = v[(v.len() - 1) / 2];
+    // Kept: both ends move, as far as each turn finds.
     let mut i: usize = 0;
     let mut e = v.len();
     while i < e {
@@ -104,6 +95,7 @@ fn select(v: &mut [f32], k: usize) -> f32
 }
 
 // The larger of two.
+// Kept: the library's `max` promises either of two that compare equal, and `largest` cites x there.
 fn larger(x: f32, y: f32) -> f32
     ensures { result ≡ cond (Ieee.lt x y) y x }
 {
@@ -118,10 +110,8 @@ fn largest(v: &[f32], n: usize) -> f32
     ensures { Largest v.now n result }
 {
     let mut m = v[0];
-    let mut i = 1;
-    while i < n {
+    for i in 1..n {
         m = larger(m, v[i]);
-        i += 1;
     }
     m
 }

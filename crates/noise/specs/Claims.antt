@@ -4,7 +4,7 @@ use Rattle.laws.specs.Fold.{sum_to}
 use Rattle.boundary.specs.Runs.{edges}
 use Rattle.noise.specs.Rows.{rows_counted, row_ink_at, is_bare, is_between, rows_without, rows_with}
 use Rattle.noise.specs.Door.{is_shortest, without_answer, with_answer, counted_rows}
-use Rattle.noise.specs.declared.Count.TheVariants.{Of}
+use Rattle.laws.specs.Said.{give}
 
 -- `count_rows` counts every row of n pixels, and each once: a test that one of these rows passes and no other has the count 1.
 unfoldable pub RowsOnce : Type 0
@@ -20,7 +20,7 @@ pub record AddUp : Type 0 where
 
 -- "With run 4 and L = 4 there are 15 rows without a point."
 unfoldable pub Fifteen : Type 0
-Fifteen = without_answer 4 4 ≡ Of 15
+Fifteen = without_answer 4 4 ≡ give 15
 
 -- The tests that rows are counted by are about the points that a row gives the outline (crate boundary, `edges`): there are none, or they
 -- are the start of pixel f and the end of pixel l, doubled.

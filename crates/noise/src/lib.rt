@@ -5,54 +5,50 @@
 #![tactic(auto)]
 
 ghost use Rattle.std.specs.Prelude.{◌≡◌};
+ghost use Rattle.refusal.specs.Numbers.{said};
 ghost use Rattle.noise.specs.Door.{without_answer, with_answer};
+
+use refusal::Refusal;
 
 pub mod claims;
 mod parts;
 
-// How many rows, at most 2^60, or the number of a refusal.
-#[derive(Drop)]
-pub enum Count {
-    Of(u64),
-    Refused(u32),
-}
-
-// How many rows of `length` pixels have no outline point, where `run` is the shortest run that
-// counts.
-pub fn rows_without(run: u32, length: u32) -> Count
-    ensures { result ≡ without_answer run length }
+// How many rows of `length` pixels, at most 2^60, have no outline point, where `run` is the shortest
+// run that counts.
+pub fn rows_without(run: u32, length: u32) -> Result<u64, Refusal>
+    ensures { said result ≡ without_answer run length }
 {
     if run < 2 {
-        return Count::Refused(17);
+        return Err(Refusal::Run);
     }
     if 8 < run {
-        return Count::Refused(17);
+        return Err(Refusal::Run);
     }
     if 60 < length {
-        return Count::Refused(22);
+        return Err(Refusal::Row);
     }
-    Count::Of(parts::clear_rows(run as usize, length as usize + 1))
+    Ok(parts::clear_rows(run as usize, length as usize + 1))
 }
 
 // How many rows of `length` pixels have an outline whose first pixel is `first` and whose last is
 // `last`, both counted from 0: none where `last` lies before `first` or too close to it.
-pub fn rows_with(run: u32, length: u32, first: u32, last: u32) -> Count
-    ensures { result ≡ with_answer run length first last }
+pub fn rows_with(run: u32, length: u32, first: u32, last: u32) -> Result<u64, Refusal>
+    ensures { said result ≡ with_answer run length first last }
 {
     if run < 2 {
-        return Count::Refused(17);
+        return Err(Refusal::Run);
     }
     if 8 < run {
-        return Count::Refused(17);
+        return Err(Refusal::Run);
     }
     if 60 < length {
-        return Count::Refused(22);
+        return Err(Refusal::Row);
     }
     if length <= first {
-        return Count::Refused(22);
+        return Err(Refusal::Row);
     }
     if length <= last {
-        return Count::Refused(22);
+        return Err(Refusal::Row);
     }
-    Count::Of(parts::between(run as usize, length as usize, first as usize, last as usize))
+    Ok(parts::between(run as usize, length as usize, first as usize, last as usize))
 }

@@ -26,11 +26,9 @@ pub fn clear_rows(k: usize, n: usize) -> u64
     ensures { result ≡ clear_rows k n }
 {
     let mut t = [1u64; 62];
-    let mut i: usize = 1;
-    while i < n {
+    for i in 1..n {
         let v = next(&t, k, i);
         t[i + 1] = v;
-        i += 1;
     }
     t[n]
 }

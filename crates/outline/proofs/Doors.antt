@@ -1,6 +1,6 @@
 -- Laws of the outline door: part_in, fit-in; what an accepted call knows, Passed with passed; points-le; done-answer,
 -- done-list, refused-answer, refused-list. Assumes nothing.
-use mathlib.Core.Path.{◌≡◌, refl}
+use mathlib.Core.Path.{◌≡◌, refl, ap}
 use mathlib.Core.Bool.{Bool, true}
 use mathlib.Core.List.{List}
 use Prim.Native.Nat.{ℕ, zero, suc, ◌+◌, ◌-◌, ◌*◌, ◌/◌, ◌≤◌, ◌<◌}
@@ -16,9 +16,12 @@ use Rattle.picture_checks.proofs.Checked.{check-step, side-in}
 use Rattle.levels.specs.Level.{cells}
 use Rattle.labels.specs.Cells.{cells8}
 use Rattle.boundary.specs.Boundary.{rows_from, columns_from, boundary}
-use Rattle.outline.specs.Door.{is_part, grids_fit, check_outline, outline_by, list_after}
+use Rattle.outline.specs.Door.{is_part, grids_fit, check_outline, list_after}
 use Rattle.outline.specs.Inner.{Grids, Wrote}
-use Rattle.outline.specs.declared.Answer.TheVariants.{Points, Refused}
+use Rattle.laws.specs.Said.{refuse, give}
+use Rattle.refusal.specs.declared.Refusal.{Refusal}
+use Rattle.refusal.specs.Numbers.{number_of, answered}
+use Rattle.refusal.proofs.Numbers.{number-none}
 use Rattle.outline.proofs.Writes.{rows-le, columns-le, wrote-next, wrote-laid}
 
 pub part_in : (a e n : ℕ) → is_part a e n ≡ true → (a < e) × (e ≤ n)
@@ -84,20 +87,27 @@ points-le k t b =
 
 -- ---- the answer and the list
 module _ {ps : List (ℕ × ℕ)} {l l' : List Float} {r : ℕ} (n : ℕ) (z : n ≡ 0) (w : Wrote 0 ps l l' r) where
-  pub done-answer : Points (r / 2) ≡ outline_by n (length ps)
-  unfolding outline_by
+  pub done-answer : give (r / 2) ≡ answered n (length ps)
+  unfolding answered
   done-answer = let e : r / 2 ≡ length ps = omega (arith, wrote-next w) in rw (z, e)
 
   pub done-list : 2 * length ps ≤ length l → l' ≡ list_after n ps l
   unfolding list_after
   done-list fit = rw z (wrote-laid w fit)
 
-pub refused-answer : (n p : ℕ) → (n ≡ 0 → ⊥) → Refused n ≡ outline_by n p
-unfolding outline_by
-refused-answer zero p z = absurd (z refl)
-refused-answer (suc n) p z = refl
+module _ (r : Refusal) (n : ℕ) (e : number_of r ≡ n) where
+  pub refused-answer : (p : ℕ) → refuse (number_of r) ≡ answered n p
+  unfolding answered
+  refused-answer p = go n e
+    where
+      go : (m : ℕ) → number_of r ≡ m → refuse (number_of r) ≡ answered m p
+      go zero z = absurd (number-none r z)
+      go (suc m) z = ap refuse z
 
-pub refused-list : (n : ℕ) (ps : List (ℕ × ℕ)) (l : List Float) → (n ≡ 0 → ⊥) → l ≡ list_after n ps l
-unfolding list_after
-refused-list zero ps l z = absurd (z refl)
-refused-list (suc n) ps l z = refl
+  pub refused-list : (ps : List (ℕ × ℕ)) (l : List Float) → l ≡ list_after n ps l
+  unfolding list_after
+  refused-list ps l = go n e
+    where
+      go : (m : ℕ) → number_of r ≡ m → l ≡ list_after m ps l
+      go zero z = absurd (number-none r z)
+      go (suc m) z = refl

@@ -1,7 +1,8 @@
 -- The search of a row for its first run: where a pixel is no member, no run starts in the places up to it that would need it.
 -- Pixel by pixel from the last down, skip-on, skip-here, skip-none; the invariant Clear with clear-begin, clear-turn, clear-found,
 -- clear-end; the ends of a row, extremes-some, extremes-none, extremes-le; its points, row-some, row-none. Assumes nothing.
-use mathlib.Core.Path.{◌≡◌, refl, subst}
+use mathlib.Core.Path.{◌≡◌, refl, sym, ap, subst}
+use Rattle.std.proofs.lemmas.Option.{none-some, same_Some}
 use mathlib.Core.Logic.{⊎_elim}
 use mathlib.Core.Bool.{Bool, true, false, cond}
 use mathlib.Core.List.{List, [], ◌∷◌, map}
@@ -15,7 +16,7 @@ use Rattle.laws.proofs.Folds.{first-at, first-none}
 use Rattle.boundary.specs.Runs.{in_run, run_start, run_end, edges}
 use Rattle.boundary.specs.Boundary.{on_row, row_points}
 use Rattle.outline.specs.Inner.{row_line, extremes_of, skip_of}
-use Rattle.outline.specs.declared.rows.Extremes.TheVariants.{Ends, NoRun}
+use Rattle.std.specs.Prelude.{Option, Some, None}
 use Rattle.boundary.proofs.Runs.{run_of, run-at, start-mirror, start-le, run-end-le}
 
 -- ---- from the last pixel of a run down to its first
@@ -109,13 +110,18 @@ module _ (run : ℕ) (t : ℕ → Bool) (n k : ℕ) (c : Clear run t n k) where
       late a f g = omega arith
 
 -- ---- the ends of a row, by searches from either end
+ends-same : (a b s r : ℕ) → ◌≡◌ {A = Option (ℕ × ℕ)} (Some (a, b)) (Some (s, r)) → (a ≡ s) × (b ≡ r)
+ends-same a b s r q =
+    let e : ◌≡◌ {A = ℕ × ℕ} (a, b) (s, r) = same_Some (a, b) (s, r) q in
+    (ap (λ (t : ℕ × ℕ). t.0) e, ap (λ (t : ℕ × ℕ). t.1) e)
+
 module _ (run : ℕ) (p : ℕ → ℕ → Bool) (x0 n y : ℕ) where
   turned : (i : ℕ) → i < n → row_line p x0 n y true i ≡ row_line p x0 n y false (n - 1 - i)
   unfolding row_line
   turned i l = refl
 
   pub extremes-some : (a b : ℕ) → a ≡ run_start run n (row_line p x0 n y false) → b ≡ run_start run n (row_line p x0 n y true) → a < n
-      → Ends a (n - b) ≡ extremes_of run n (row_line p x0 n y false)
+      → Some (a, n - b) ≡ extremes_of run n (row_line p x0 n y false)
   unfolding extremes_of
   extremes-some a b ea eb l = rw (← ea, lt-ltb a n l, e)
     where
@@ -125,23 +131,23 @@ module _ (run : ℕ) (p : ℕ → ℕ → Bool) (x0 n y : ℕ) where
       e : n - b ≡ run_end run n (row_line p x0 n y false)
       e = omega (arith, run-end-le run n (row_line p x0 n y false), back)
 
-  pub extremes-none : (a : ℕ) → a ≡ run_start run n (row_line p x0 n y false) → n ≤ a → NoRun ≡ extremes_of run n (row_line p x0 n y false)
+  pub extremes-none : (a : ℕ) → a ≡ run_start run n (row_line p x0 n y false) → n ≤ a → None ≡ extremes_of run n (row_line p x0 n y false)
   unfolding extremes_of
   extremes-none a ea l = rw (← ea, le-ltb a n l)
 
-  pub extremes-le : (a b : ℕ) → Ends a b ≡ extremes_of run n (row_line p x0 n y false) → (a ≤ n) × (b ≤ n)
+  pub extremes-le : (a b : ℕ) → Some (a, b) ≡ extremes_of run n (row_line p x0 n y false) → (a ≤ n) × (b ≤ n)
   unfolding extremes_of
   extremes-le a b e = go (ltb (run_start run n t) n) (run_start run n t) (run_end run n t) (start-le run n t) (run-end-le run n t) e
     where
       t : ℕ → Bool
       t = row_line p x0 n y false
 
-      go : (z : Bool) (s r : ℕ) → s ≤ n → r ≤ n → Ends a b ≡ cond z (Ends s r) NoRun → (a ≤ n) × (b ≤ n)
-      go true s r ls lr q = let ha : a ≡ s = cc in let hb : b ≡ r = cc in (omega arith, omega arith)
-      go false s r ls lr q = absurd (let z : ◌≡◌ {A = ℕ} 0 1 = cc in omega arith)
+      go : (z : Bool) (s r : ℕ) → s ≤ n → r ≤ n → ◌≡◌ {A = Option (ℕ × ℕ)} (Some (a, b)) (cond z (Some (s, r)) None) → (a ≤ n) × (b ≤ n)
+      go true s r ls lr q = let e = ends-same a b s r q in (omega (arith, e.0), omega (arith, e.1))
+      go false s r ls lr q = absurd (none-some (a, b) (sym q))
 
   -- the points from the ends
-  pub row-some : (a b : ℕ) → Ends a b ≡ extremes_of run n (row_line p x0 n y false)
+  pub row-some : (a b : ℕ) → Some (a, b) ≡ extremes_of run n (row_line p x0 n y false)
       → (2 * (x0 + a), 2 * y + 1) ∷ (2 * (x0 + b), 2 * y + 1) ∷ [] ≡ row_points run p x0 n y
   unfolding extremes_of row_points edges row_line
   row-some a b e = go (ltb (run_start run n line) n) (run_start run n line) (run_end run n line) e
@@ -149,20 +155,20 @@ module _ (run : ℕ) (p : ℕ → ℕ → Bool) (x0 n y : ℕ) where
       line : ℕ → Bool
       line i = p (x0 + i) y
 
-      go : (z : Bool) (s r : ℕ) → Ends a b ≡ cond z (Ends s r) NoRun
+      go : (z : Bool) (s r : ℕ) → ◌≡◌ {A = Option (ℕ × ℕ)} (Some (a, b)) (cond z (Some (s, r)) None)
           → ◌≡◌ {A = List (ℕ × ℕ)} ((2 * (x0 + a), 2 * y + 1) ∷ (2 * (x0 + b), 2 * y + 1) ∷ [])
           (map (on_row (2 * y + 1)) (cond z (2 * (x0 + s) ∷ 2 * (x0 + r) ∷ []) []))
-      go true s r q = let ha : a ≡ s = cc in let hb : b ≡ r = cc in rw (ha, hb)
-      go false s r q = absurd (let z : ◌≡◌ {A = ℕ} 0 1 = cc in omega arith)
+      go true s r q = let e = ends-same a b s r q in rw (e.0, e.1)
+      go false s r q = absurd (none-some (a, b) (sym q))
 
-  pub row-none : NoRun ≡ extremes_of run n (row_line p x0 n y false) → [] ≡ row_points run p x0 n y
+  pub row-none : None ≡ extremes_of run n (row_line p x0 n y false) → [] ≡ row_points run p x0 n y
   unfolding extremes_of row_points edges row_line
   row-none e = go (ltb (run_start run n line) n) (run_start run n line) (run_end run n line) e
     where
       line : ℕ → Bool
       line i = p (x0 + i) y
 
-      go : (z : Bool) (s r : ℕ) → NoRun ≡ cond z (Ends s r) NoRun
+      go : (z : Bool) (s r : ℕ) → ◌≡◌ {A = Option (ℕ × ℕ)} None (cond z (Some (s, r)) None)
           → ◌≡◌ {A = List (ℕ × ℕ)} [] (map (on_row (2 * y + 1)) (cond z (2 * (x0 + s) ∷ 2 * (x0 + r) ∷ []) []))
-      go true s r q = absurd (let z : ◌≡◌ {A = ℕ} 0 1 = cc in omega arith)
+      go true s r q = absurd (none-some (s, r) q)
       go false s r q = refl

@@ -2,16 +2,15 @@
 -- list afterwards. Definitions only. Assumes nothing.
 use Rattle.std.specs.Prelude.{Bool, ◌&&◌, List, ℕ, zero, suc, ◌+◌, ◌-◌, ◌*◌, leb, ltb, length, Float}
 use Rattle.laws.specs.Check.{or_refuse}
-use Rattle.laws.specs.Said.{Said, refuse, give}
+use Rattle.laws.specs.Said.{Said}
 use Rattle.laws.specs.Move.{Box}
+use Rattle.refusal.specs.Numbers.{answered}
 use Rattle.picture_checks.specs.Picture.{check_picture}
 use Rattle.levels.specs.Level.{cells}
 use Rattle.labels.specs.Cells.{cells8}
 use Rattle.laws.specs.Lent.{laid}
 use Rattle.hull.specs.Points.{floats_of}
 use Rattle.boundary.specs.Boundary.{member_at, boundary}
-use Rattle.outline.specs.declared.Answer.{Answer}
-use Rattle.outline.specs.declared.Answer.TheVariants.{Points, Refused}
 
 -- Not an empty part of a side of n pixels: from a, which is within, to e, which is not.
 abbrev pub is_part : ℕ → ℕ → ℕ → Bool
@@ -38,16 +37,6 @@ check_outline w h bytes b levels labels room = check_picture w h bytes (check_pa
 unfoldable pub door_points : ℕ → ℕ → List ℕ → List ℕ → List ℕ → Box → List (ℕ × ℕ)
 door_points want w s levels labels b = boundary 4 (member_at want w s levels labels) b
 
--- The answer for the number of a refusal, or how many points there are.
-unfoldable pub outline_by : ℕ → ℕ → Answer
-outline_by zero points = Points points
-outline_by (suc n) points = Refused (suc n)
-
--- What an answer says: how many points.
-abbrev pub outline_said : Answer → Said ℕ
-outline_said (Points n) = give n
-outline_said (Refused n) = refuse n
-
 -- The lent list after the call: the points in its first places and the rest untouched, or as it was.
 unfoldable pub list_after : ℕ → List (ℕ × ℕ) → List Float → List Float
 list_after zero points old = laid (floats_of points) old
@@ -59,9 +48,9 @@ abbrev pub number_for : List ℕ → List ℕ → List ℕ → ℕ → ℕ → B
 number_for s levels labels w h b room = check_outline w h (length s) b (length levels) (length labels) room
 
 -- Its answer.
-abbrev pub outline_answer : List ℕ → List ℕ → List ℕ → ℕ → ℕ → ℕ → Box → ℕ → Answer
+abbrev pub outline_answer : List ℕ → List ℕ → List ℕ → ℕ → ℕ → ℕ → Box → ℕ → Said ℕ
 outline_answer s levels labels want w h b room =
-    outline_by (number_for s levels labels w h b room) (length (door_points want w s levels labels b))
+    answered (number_for s levels labels w h b room) (length (door_points want w s levels labels b))
 
 -- The lent list after it.
 abbrev pub outline_after : List ℕ → List ℕ → List ℕ → ℕ → ℕ → ℕ → Box → List Float → List Float

@@ -1,5 +1,5 @@
 -- What the loops over rows and columns hold on their way. Definitions only. Assumes nothing.
-use Rattle.std.specs.Prelude.{◌≡◌, Bool, true, false, cond, List, [], ◌∷◌, ℕ, zero, suc, ◌+◌, ◌-◌, ◌*◌, ◌/◌, ◌≤◌, ◌<◌, leb, ltb, eqb, length, get_or, take, drop, Float}
+use Rattle.std.specs.Prelude.{◌≡◌, Bool, true, false, cond, List, [], ◌∷◌, ℕ, zero, suc, ◌+◌, ◌-◌, ◌*◌, ◌/◌, ◌≤◌, ◌<◌, leb, ltb, eqb, length, get_or, take, drop, Float, Option, Some, None}
 use Rattle.laws.specs.Lent.{Stored}
 use Rattle.laws.specs.Plane.{plane}
 use Rattle.levels.specs.Level.{cells}
@@ -8,8 +8,6 @@ use Rattle.hull.specs.Points.{floats_of}
 use Rattle.boundary.specs.Runs.{run_start, run_end}
 use Rattle.boundary.specs.Boundary.{counts}
 use Rattle.laws.specs.Fold.{joined}
-use Rattle.outline.specs.declared.rows.Extremes.{Extremes}
-use Rattle.outline.specs.declared.rows.Extremes.TheVariants.{Ends, NoRun}
 
 -- ---- lines
 -- Place i of a line of n, from either end.
@@ -25,8 +23,8 @@ unfoldable pub column_line : (ℕ → ℕ → Bool) → ℕ → ℕ → ℕ → 
 column_line p y0 n x back i = p x (y0 + toward back n i)
 
 -- Start of the first and end of the last run of k or more, or none.
-unfoldable pub extremes_of : ℕ → ℕ → (ℕ → Bool) → Extremes
-extremes_of k n t = cond (ltb (run_start k n t) n) (Ends (run_start k n t) (run_end k n t)) NoRun
+unfoldable pub extremes_of : ℕ → ℕ → (ℕ → Bool) → Option (ℕ × ℕ)
+extremes_of k n t = cond (ltb (run_start k n t) n) (Some (run_start k n t, run_end k n t)) None
 
 -- ---- rows: from k on, the pixels that no run can start at; 0 where one starts at k
 unfoldable pub skip_of : ℕ → (ℕ → Bool) → ℕ → ℕ

@@ -59,12 +59,10 @@ fn put_columns(
         out.old out.new result }
 {
     let mut to = at;
-    let mut i = 0;
-    while i < n {
+    for i in 0..n {
         let d = down[i] as usize;
         let u = up[i] as usize;
         to = put_column(run, out, to, y0, rows, x + i, d, u);
-        i += 1;
     }
     to
 }
@@ -104,17 +102,6 @@ fn strip(
     put_columns(run, &d, &u, x, n, y0, m, out, at)
 }
 
-// At most 64.
-fn strip_width(n: usize) -> usize
-    requires { 0 < n }
-    ensures { (result ≤ n) × (0 < result) × (result ≤ 64) }
-{
-    if 64 < n {
-        return 64;
-    }
-    n
-}
-
 // The points of the n columns from x0 on.
 fn all_columns(
     s: &[u8],
@@ -141,8 +128,9 @@ fn all_columns(
 {
     let mut to = at;
     let mut i: usize = 0;
+    // Kept: a step is up to 64 columns; a `for` counts one.
     while i < n {
-        let wide = strip_width(n - i);
+        let wide = (n - i).min(64);
         let x = x0 + i;
         to = strip(s, levels, labels, want, run, w, h, x, wide, y0, m, out, to);
         i += wide;

@@ -3,7 +3,10 @@
 
 ghost use Rattle.std.specs.Prelude.{◌≡◌, length};
 ghost use Rattle.laws.specs.Move.{box_at};
+ghost use Rattle.refusal.specs.Numbers.{said};
 ghost use Rattle.outline.specs.Door.{outline_answer, outline_after};
+
+use refusal::Refusal;
 
 mod cells;
 mod columns;
@@ -12,15 +15,8 @@ mod rows;
 mod stores;
 mod sweep;
 
-// How many boundary points the list holds, or the number of a refusal.
-#[derive(Drop)]
-pub enum Answer {
-    Points(usize),
-    Refused(u32),
-}
-
 // The outline door: stores the boundary points of the box x0 y0 x1 y1 in out, as alternating x and
-// y, for the member pixels of the cells labelled want, or of all labelled cells where want is 0; or
+// y, and tells how many they are, for the member pixels of the cells labelled want, or of all labelled cells where want is 0; or
 // refuses, and changes nothing. levels are the thresholds of the level cells, labels the labels of
 // the region cells.
 pub fn outline(
@@ -35,8 +31,8 @@ pub fn outline(
     x1: usize,
     y1: usize,
     out: &mut [f32],
-) -> Answer
-    ensures answer { result ≡ outline_answer s.now levels.now labels.now want w h
+) -> Result<usize, Refusal>
+    ensures answer { said result ≡ outline_answer s.now levels.now labels.now want w h
         (box_at x0 y0 x1 y1) (length out.old) }
     ensures out { out.new ≡ outline_after s.now levels.now
         labels.now want w h (box_at x0 y0 x1 y1) out.old }
@@ -45,10 +41,7 @@ pub fn outline(
     let grid = levels.len();
     let cells = labels.len();
     let room = out.len();
-    let n = refusals::check(w, h, bytes, x0, y0, x1, y1, grid, cells, room);
-    if n == 0 {
-        let end = columns::boundary_points(s, levels, labels, want, 4, w, h, x0, y0, x1, y1, out);
-        return Answer::Points(end / 2);
-    }
-    Answer::Refused(n)
+    refusals::check(w, h, bytes, x0, y0, x1, y1, grid, cells, room)?;
+    let end = columns::boundary_points(s, levels, labels, want, 4, w, h, x0, y0, x1, y1, out);
+    Ok(end / 2)
 }

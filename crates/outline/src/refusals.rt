@@ -1,9 +1,11 @@
 // The checks of the outline door, in the order of its table.
 ghost use Rattle.std.specs.Prelude.{◌≡◌, ◌≤◌};
 ghost use Rattle.laws.specs.Move.{box_at};
+ghost use Rattle.refusal.specs.Numbers.{number_in};
 ghost use Rattle.outline.specs.Door.{is_part, grids_fit, check_parts, check_outline};
 
 use picture_checks::check_picture;
+use refusal::Refusal;
 
 // Whether a..e is a part of a side of n pixels that is not empty.
 fn is_part(a: usize, e: usize, n: usize) -> bool
@@ -37,26 +39,26 @@ fn check_parts(
     levels: usize,
     labels: usize,
     room: usize,
-) -> u32
+) -> Result<(), Refusal>
     requires { (w ≤ 4096) × (h ≤ 4096) }
-    ensures { result ≡ check_parts w h (box_at x0 y0 x1 y1) levels labels room }
+    ensures { number_in result ≡ check_parts w h (box_at x0 y0 x1 y1) levels labels room }
 {
     if !is_part(x0, x1, w) {
-        return 5;
+        return Err(Refusal::Box);
     }
     if !is_part(y0, y1, h) {
-        return 5;
+        return Err(Refusal::Box);
     }
     if !grids_fit(w, h, levels, labels) {
-        return 3;
+        return Err(Refusal::Lent);
     }
     if room < 4 * (x1 - x0 + (y1 - y0)) {
-        return 3;
+        return Err(Refusal::Lent);
     }
-    0
+    Ok(())
 }
 
-// The number of the first check that fails, or 0.
+// The first check that fails refuses the call.
 pub fn check(
     w: usize,
     h: usize,
@@ -68,12 +70,9 @@ pub fn check(
     levels: usize,
     labels: usize,
     room: usize,
-) -> u32
-    ensures { result ≡ check_outline w h bytes (box_at x0 y0 x1 y1) levels labels room }
+) -> Result<(), Refusal>
+    ensures { number_in result ≡ check_outline w h bytes (box_at x0 y0 x1 y1) levels labels room }
 {
-    let n = check_picture(w, h, bytes);
-    if n != 0 {
-        return n;
-    }
+    check_picture(w, h, bytes)?;
     check_parts(w, h, x0, y0, x1, y1, levels, labels, room)
 }

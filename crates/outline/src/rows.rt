@@ -9,13 +9,6 @@ ghost use Rattle.outline.specs.Inner.{row_line, extremes_of, skip_of, Grids, Wro
 use crate::cells::{cut_at, place};
 use crate::stores::put_two;
 
-// Start of the first and end of the last run, or none.
-#[derive(Drop)]
-pub enum Extremes {
-    Ends(usize, usize),
-    NoRun,
-}
-
 // Whether pixel x, y is a member.
 fn member(
     s: &[u8],
@@ -78,12 +71,10 @@ fn skip(
         labels.now) x0 n y back) k)
         × (result ≤ run) }
 {
-    let mut j = run;
-    while 0 < j {
-        if !at(s, levels, labels, want, w, h, x0, n, y, back, k + (j - 1)) {
-            return j;
+    for j in (0..run).rev() {
+        if !at(s, levels, labels, want, w, h, x0, n, y, back, k + j) {
+            return j + 1;
         }
-        j -= 1;
     }
     0
 }
@@ -111,6 +102,7 @@ fn first_run(
         × (result ≤ n) }
 {
     let mut k: usize = 0;
+    // Kept: a step is as many places as `skip` tells; a `for` counts one.
     while k + run <= n {
         let d = skip(s, levels, labels, want, run, w, h, x0, n, y, back, k);
         if d == 0 {
@@ -121,7 +113,7 @@ fn first_run(
     n
 }
 
-// The ends of the first and the last run of row y, counted from x0.
+// Start of the first and end of the last run of row y, counted from x0; none where it has no run.
 fn run_extremes(
     s: &[u8],
     levels: &[u8],
@@ -133,7 +125,7 @@ fn run_extremes(
     x0: usize,
     n: usize,
     y: usize,
-) -> Extremes
+) -> Option<(usize, usize)>
     requires grids { Grids levels.now labels.now w h }
     requires s_len { (length s.now ≡ w * h) × (x0 + n ≤ w) × (y < h) }
     requires run_nonzero { (0 < run) × (run ≤ 8) }
@@ -144,9 +136,9 @@ fn run_extremes(
     let a = first_run(s, levels, labels, want, run, w, h, x0, n, y, false);
     if a < n {
         let b = first_run(s, levels, labels, want, run, w, h, x0, n, y, true);
-        return Extremes::Ends(a, n - b);
+        return Some((a, n - b));
     }
-    Extremes::NoRun
+    None
 }
 
 // The points of row y.
@@ -171,7 +163,7 @@ fn row_points(
         (member_at want w s.now levels.now labels.now) x0 n y)
         out.old out.new result }
 {
-    let Extremes::Ends(a, b) = run_extremes(s, levels, labels, want, run, w, h, x0, n, y) else {
+    let Some((a, b)) = run_extremes(s, levels, labels, want, run, w, h, x0, n, y) else {
         return to;
     };
     put_two(out, to, 2 * (x0 + a), 2 * y + 1, 2 * (x0 + b), 2 * y + 1)
@@ -202,10 +194,8 @@ pub fn all_rows(
         labels.now) x0 n y0 m) out.old out.new result }
 {
     let mut to: usize = 0;
-    let mut i: usize = 0;
-    while i < m {
+    for i in 0..m {
         to = row_points(s, levels, labels, want, run, w, h, x0, n, y0 + i, out, to);
-        i += 1;
     }
     to
 }

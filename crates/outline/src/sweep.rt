@@ -1,7 +1,7 @@
 // Scans of strips of at most 64 columns, row by row, from the top or from the bottom. run is the
 // shortest run that counts. A column's state is one number: below run the run so far, from run on
 // the first run was found and starts at state - run.
-ghost use Rattle.std.specs.Prelude.{◌≡◌, true, false, cond, ℕ, ◌+◌, ◌*◌, ◌/◌, ◌<◌, ◌≤◌, ltb, get_or, length};
+ghost use Rattle.std.specs.Prelude.{◌≡◌, true, cond, ℕ, ◌+◌, ◌*◌, ◌/◌, ◌<◌, ◌≤◌, ltb, get_or, length};
 ghost use Rattle.boundary.specs.Boundary.{member_at};
 ghost use Rattle.outline.specs.Inner.{scan_step, Grids, Columns, CutRow, part_of, Stepped, Swept, AtMost};
 
@@ -44,13 +44,11 @@ fn fill_cuts(
 {
     let mut a = x;
     let mut t = cut_at(levels, labels, want, w, h, x, y);
-    let mut i: usize = 0;
-    while i < n {
+    for i in 0..n {
         let cx = a / 8;
         a = x + i;
         t = cut_again(levels, labels, want, w, h, a, y, cx, t);
         cuts[i] = t;
-        i += 1;
     }
 }
 
@@ -86,10 +84,8 @@ fn step_row(run: u16, row: &[u8], cuts: &[u8; 64], state: &mut [u16; 64], k: u16
     ensures { Stepped run row.now cuts.now state.old k
         (length row.now) state.new }
 {
-    let mut i = 0;
-    while i < row.len() {
-        state[i] = next_state(run, state[i], row[i], cuts[i], k);
-        i += 1;
+    for (i, p) in row.iter().enumerate() {
+        state[i] = next_state(run, state[i], *p, cuts[i], k);
     }
 }
 
@@ -120,17 +116,7 @@ fn all_found(run: u16, state: &[u16; 64], n: usize, k: usize) -> bool
     requires { n ≤ 64 }
     ensures { result ≡ true → (i : ℕ) → i < n → run ≤ get_or state.now i 0 }
 {
-    if k % 8 != 0 {
-        return false;
-    }
-    let mut i = 0;
-    while i < n {
-        if state[i] < run {
-            return false;
-        }
-        i += 1;
-    }
-    true
+    k % 8 == 0 && state[..n].iter().all(|d| run <= *d)
 }
 
 // Whether none of the n columns has a run.
@@ -138,14 +124,7 @@ pub fn none_found(run: u16, state: &[u16; 64], n: usize) -> bool
     requires { n ≤ 64 }
     ensures { result ≡ true → (i : ℕ) → i < n → get_or state.now i 0 < run }
 {
-    let mut i = 0;
-    while i < n {
-        if run <= state[i] {
-            return false;
-        }
-        i += 1;
-    }
-    true
+    state[..n].iter().all(|d| *d < run)
 }
 
 // The states of the n columns from x on after all rows of the box, or as soon as each has its run.
@@ -174,14 +153,12 @@ pub fn scan_columns(
     let mut cuts = [0u8; 64];
     let mut y = place(back, y0, rows, 0);
     fill_cuts(levels, labels, want, w, h, x, n, y, &mut cuts);
-    let mut k: usize = 0;
-    while k < rows {
+    for k in 0..rows {
         let cy = y / 8;
         y = place(back, y0, rows, k);
         refill(levels, labels, want, w, h, x, n, cy, y, &mut cuts);
         sweep_row(run, s, w, h, x, n, y, &cuts, state, k as u16);
-        k += 1;
-        if all_found(run, state, n, k) {
+        if all_found(run, state, n, k + 1) {
             return;
         }
     }

@@ -3,9 +3,7 @@ ghost use Rattle.std.specs.Prelude.{◌≤◌, length};
 
 use crate::paint::{BOX, HULL, QUAD};
 use drawing::shapes::{box_outline, closed};
-use hull::Hulled;
-use hull::points::{Corners, Quad};
-use outline::Answer;
+use hull::points::Quad;
 use regions::answer::{Kept, Region};
 
 // The numbers of n points, of which a list has room.
@@ -32,7 +30,7 @@ fn region_points(
     let x1 = r.x1 as usize;
     let y1 = r.y1 as usize;
     let a = outline::outline(gray, levels, labels, r.label, w, h, x0, y0, x1, y1, list);
-    let Answer::Points(n) = a else {
+    let Ok(n) = a else {
         return 0;
     };
     numbers(n, list.len())
@@ -42,7 +40,7 @@ fn region_points(
 fn vertices(p: &[f32], list: &mut [f32]) -> usize
     ensures { result ≤ length list.old }
 {
-    let Hulled::Vertices(n) = hull::convex_hull(p, list) else {
+    let Ok(n) = hull::convex_hull(p, list) else {
         return 0;
     };
     numbers(n, list.len())
@@ -57,7 +55,7 @@ pub(crate) fn quad_outline(plane: &mut [u8], w: usize, h: usize, q: Quad, colour
 // A hull, and its quad where it has one.
 fn hull_and_quad(plane: &mut [u8], w: usize, h: usize, vertices: &[f32]) {
     closed(plane, w, h, vertices, HULL);
-    let Corners::Found(q) = hull::quad(vertices) else {
+    let Some(q) = hull::quad(vertices) else {
         return;
     };
     quad_outline(plane, w, h, q, QUAD);
@@ -101,10 +99,7 @@ pub(crate) fn all_regions(
     list: &mut [f32],
 ) {
     let kept = k.list;
-    let mut i: usize = 0;
-    while i < 4 {
-        let r = kept[i];
-        region(gray, w, h, plane, levels, labels, r, points, list);
-        i += 1;
+    for r in kept.iter() {
+        region(gray, w, h, plane, levels, labels, *r, points, list);
     }
 }

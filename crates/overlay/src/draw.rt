@@ -1,9 +1,9 @@
 // What is drawn: the kept regions, then the tags. A later line lies over an earlier one.
 use crate::areas::all_regions;
 use crate::found::all_tags;
-use ring::door::Outcome;
+use refusal::Refusal;
 
-// Draws the kept regions of a picture. The number of the picture door's refusal, else 0.
+// Draws the kept regions of a picture, or tells the picture door's refusal.
 fn regions_of(
     gray: &[u8],
     w: usize,
@@ -14,17 +14,13 @@ fn regions_of(
     stack: &mut [u32],
     points: &mut [f32],
     list: &mut [f32],
-) -> u32 {
-    let p = picture::picture(gray, w, h, levels, labels, stack);
-    if p.refused != 0 {
-        return p.refused;
-    }
-    let k = p.regions;
+) -> Result<(), Refusal> {
+    let k = picture::picture(gray, w, h, levels, labels, stack)?;
     all_regions(gray, w, h, plane, levels, labels, k, points, list);
-    0
+    Ok(())
 }
 
-// Draws the tags of a picture. The number of a refusal of `tags`, else 0.
+// Draws the tags of a picture, or tells the refusal of `tags`.
 fn tags_of(
     gray: &[u8],
     w: usize,
@@ -37,21 +33,15 @@ fn tags_of(
     straight: &mut [f32],
     cand: &mut [f32],
     buf: &mut [f32],
-) -> u32 {
-    let a = tag_list::tags(
+) -> Result<(), Refusal> {
+    let t = tag_list::tags(
         gray, w, h, 64, levels, labels, stack, points, straight, cand, buf,
-    );
-    let o = a.outcome;
-    if let Outcome::Refused(n) = o {
-        return n;
-    }
-    let t = a.tags;
+    )?;
     all_tags(plane, w, h, t);
-    0
+    Ok(())
 }
 
-// Draws what the doors answer for a picture into a plane of colour numbers. The number of a
-// refusal, else 0.
+// Draws what the doors answer for a picture into a plane of colour numbers, or tells a refusal.
 pub(crate) fn draw(
     gray: &[u8],
     w: usize,
@@ -64,11 +54,8 @@ pub(crate) fn draw(
     straight: &mut [f32],
     cand: &mut [f32],
     buf: &mut [f32],
-) -> u32 {
-    let n = regions_of(gray, w, h, plane, levels, labels, stack, points, straight);
-    if n != 0 {
-        return n;
-    }
+) -> Result<(), Refusal> {
+    regions_of(gray, w, h, plane, levels, labels, stack, points, straight)?;
     tags_of(
         gray, w, h, plane, levels, labels, stack, points, straight, cand, buf,
     )

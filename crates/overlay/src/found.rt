@@ -34,10 +34,7 @@ fn tag(plane: &mut [u8], w: usize, h: usize, t: Tag) {
 // All tags.
 pub(crate) fn all_tags(plane: &mut [u8], w: usize, h: usize, t: Tags) {
     let list = t.list;
-    let mut i: usize = 0;
-    while i < 4 {
-        let x = list[i];
-        tag(plane, w, h, x);
-        i += 1;
+    for x in list.iter() {
+        tag(plane, w, h, *x);
     }
 }

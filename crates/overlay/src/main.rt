@@ -8,7 +8,6 @@ ghost use Rattle.word_bytes.specs.Inner.{HasPlaces};
 ghost use Rattle.tray.specs.Input.{FileAt};
 ghost use Rattle.overlay.specs.Shown.{Shown};
 
-use pgm::File;
 use refusals::STDERR_FILENO;
 
 mod areas;
@@ -63,7 +62,7 @@ fn show(gray: &[u8], w: usize, h: usize, plane: &mut [u8])
     let mut straight = points_room();
     let mut cand = points_room();
     let mut buf = points_room();
-    let n = draw::draw(
+    let drawn = draw::draw(
         gray,
         w,
         h,
@@ -76,8 +75,8 @@ fn show(gray: &[u8], w: usize, h: usize, plane: &mut [u8])
         &mut cand,
         &mut buf,
     );
-    if n != 0 {
-        refusals::tell(n);
+    if let Err(r) = drawn {
+        refusals::tell(r);
         return;
     }
     if !paint::write_picture(gray, w, h, plane) {
@@ -103,8 +102,8 @@ fn read(bytes: &mut [u8], plane: &mut [u8])
     requires in_bounds_2 { 1048576 ≤ length plane.old }
 {
     match input::read_file(bytes, 1024) {
-        File::Refused(n) => refusals::tell(n),
-        File::Picture(w, h, at) => show_at(bytes, w, h, at, plane),
+        Err(r) => refusals::tell(r),
+        Ok(p) => show_at(bytes, p.width, p.height, p.at, plane),
     }
 }
 

@@ -6,6 +6,7 @@ ghost use Rattle.overlay.specs.Shown.{Shown};
 const STDOUT_FILENO: i32 = 1;
 
 // Colour numbers; 0 is the grey of the picture.
+// Kept: no enum, a rule of the project: memory is fixed, and crate `drawing` writes bytes into a lent list.
 pub const BOX: u8 = 1;
 
 pub const HULL: u8 = 2;
@@ -16,43 +17,24 @@ pub const TAG: u8 = 4;
 
 pub const CORNER: u8 = 5;
 
-// Red, green and blue, 0 to 255.
-#[derive(Drop)]
-struct Colour {
-    red: u8,
-    green: u8,
-    blue: u8,
-}
-
-// A colour of three values.
-fn made(red: u8, green: u8, blue: u8) -> Colour {
-    Colour {
-        red: red,
-        green: green,
-        blue: blue,
-    }
-}
-
-// The colour of a number over a grey: blue boxes, green hulls, orange quads, red tags, magenta
-// first corners.
-fn colour_of(number: u8, gray: u8) -> Colour {
+// The colour of a number over a grey, red, green and blue: blue boxes, green hulls, orange quads,
+// red tags, magenta first corners.
+fn colour_of(number: u8, gray: u8) -> [u8; 3] {
     match number {
-        1 => made(64, 128, 255),
-        2 => made(0, 176, 0),
-        3 => made(255, 144, 0),
-        4 => made(255, 0, 0),
-        5 => made(255, 0, 255),
-        _ => made(gray, gray, gray),
+        BOX => [64, 128, 255],
+        HULL => [0, 176, 0],
+        QUAD => [255, 144, 0],
+        TAG => [255, 0, 0],
+        CORNER => [255, 0, 255],
+        _ => [gray; 3],
     }
 }
 
 // One pixel of a row.
-fn put_pixel(row: &mut [u8], x: usize, c: Colour)
+fn put_pixel(row: &mut [u8], x: usize, c: [u8; 3])
     requires { 3 * x + 2 < length row.old }
 {
-    row[3 * x] = c.red;
-    row[3 * x + 1] = c.green;
-    row[3 * x + 2] = c.blue;
+    row[3 * x..3 * x + 3].copy_from_slice(&c);
 }
 
 // The row of w pixels from place at on.
@@ -60,11 +42,9 @@ fn put_row(row: &mut [u8], gray: &[u8], plane: &[u8], at: usize, w: usize)
     requires w_in_bounds { 3 * w ≤ length row.old }
     requires w_in_bounds_2 { (at + w ≤ length gray.now) × (at + w ≤ length plane.now) }
 {
-    let mut x: usize = 0;
-    while x < w {
+    for x in 0..w {
         let c = colour_of(plane[at + x], gray[at + x]);
         put_pixel(row, x, c);
-        x += 1;
     }
 }
 
@@ -106,12 +86,10 @@ fn write_rows(row: &mut [u8], gray: &[u8], plane: &[u8], w: usize, h: usize) -> 
     requires w_in_bounds { 3 * w ≤ length row.old }
     requires shown { Shown w h gray.now plane.now }
 {
-    let mut y: usize = 0;
-    while y < h {
+    for y in 0..h {
         if !write_row(row, gray, plane, y * w, w) {
             return false;
         }
-        y += 1;
     }
     true
 }

@@ -16,8 +16,8 @@ use Rattle.laws.proofs.Bools.{and_left, and_right}
 use Rattle.picture_checks.specs.Picture.{is_side}
 use Rattle.picture_checks.proofs.Checked.{check-step}
 use Rattle.pgm.specs.Form.{has_form, file_width, file_height, file_maximum, file_start}
-use Rattle.pgm.specs.Doors.{check_header, check_pixels, check_file, found, file_answer, file_pixels}
-use Rattle.pgm.specs.declared.File.TheVariants.{Picture}
+use Rattle.pgm.specs.Doors.{image, check_header, check_pixels, check_file, found, file_answer, file_pixels}
+use Rattle.laws.specs.Said.{give}
 use Rattle.pgm.proofs.Longer.{header-append}
 
 pub record Accepted (s : List ℕ) : Type 0 where
@@ -57,7 +57,7 @@ pub accepts : (s : List ℕ) → Accepted s → check_file s ≡ 0
 unfolding check_file
 accepts s a = header-on s a (check_pixels s) ∙ enough-check s a
 
-pub answered : (s : List ℕ) → Accepted s → file_answer s ≡ Picture (file_width s) (file_height s) (file_start s)
+pub answered : (s : List ℕ) → Accepted s → file_answer s ≡ give (image (file_width s) (file_height s) (file_start s))
 unfolding file_answer found
 answered s a = rw (accepts s a)
 

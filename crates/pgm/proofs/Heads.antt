@@ -23,7 +23,7 @@ use Rattle.pgm.specs.Form.{has_letters, has_form, file_width, file_height, file_
 use Rattle.pgm.specs.Doors.{check_header, check_pixels, check_file, found, file_answer}
 use Rattle.pgm.specs.Steps.{begun, is_whole, steps_over}
 use Rattle.pgm.specs.Head.{check_head, Passed, pixels_answer}
-use Rattle.pgm.specs.declared.File.TheVariants.{Refused}
+use Rattle.laws.specs.Said.{refuse}
 use Rattle.pgm.specs.declared.steps.Reading.{Reading}
 use Rattle.pgm.specs.declared.steps.Stage.TheVariants.{Whole}
 use Rattle.pgm.proofs.Beside.{kept, Outcome, whole, refused, steps-header}
@@ -123,7 +123,7 @@ fits s r (whole q e) rest ok =
 fits s r (refused q f) rest ok = absurd (clash (header-step s rest ok).0 q)
 
 -- ---- the answers
-pub no-letters : (s : List ℕ) → has_letters s ≡ false → Refused 14 ≡ file_answer s
+pub no-letters : (s : List ℕ) → has_letters s ≡ false → refuse 14 ≡ file_answer s
 unfolding file_answer check_file check_header has_form found
 no-letters s e = rw e
 
@@ -131,7 +131,7 @@ module _ (s : List ℕ) (r : Reading) (letters : has_letters s ≡ true) (run : 
   pub outcome : Outcome s r
   outcome = subst (λ (r : Reading). Outcome s r) (sym run) (steps-header s letters)
 
-  pub read-refused : (n : ℕ) → n ≡ check_head r 0 → (n ≡ 0 → ⊥) → Refused n ≡ file_answer s
+  pub read-refused : (n : ℕ) → n ≡ check_head r 0 → (n ≡ 0 → ⊥) → refuse n ≡ file_answer s
   unfolding file_answer check_file
   read-refused n e off =
       found-off (header-gate s gate-open) (check_pixels s) (file_width s) (file_height s) (file_start s) n

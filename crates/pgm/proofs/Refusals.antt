@@ -10,10 +10,10 @@ use lib.ListN.{length, get_or, get_or-eq_default}
 use borrow.Author.Tests.{le-leb, lt-leb, eq-eqb, ne_eqb}
 use Rattle.picture_checks.specs.Picture.{is_side}
 use Rattle.pgm.specs.Form.{has_letters}
-use Rattle.pgm.specs.Doors.{found}
+use Rattle.pgm.specs.Doors.{image, found}
 use Rattle.pgm.specs.Steps.{is_whole}
 use Rattle.pgm.specs.Head.{check_head, pixels_answer}
-use Rattle.pgm.specs.declared.File.TheVariants.{Picture, Refused}
+use Rattle.laws.specs.Said.{give, refuse}
 use Rattle.pgm.specs.declared.steps.Reading.{Reading}
 
 module _ (h : Reading) where
@@ -41,11 +41,11 @@ module _ (h : Reading) where
         head-on e = rw (whole, eq-eqb h.maximum 255 maximum, wide, e)
 
   -- ---- the pixels
-  pub pixels-few : (n : ℕ) → n < h.at + h.width * h.height → Refused 2 ≡ pixels_answer h n
+  pub pixels-few : (n : ℕ) → n < h.at + h.width * h.height → refuse 2 ≡ pixels_answer h n
   unfolding pixels_answer found
   pixels-few n l = rw (lt-leb (h.at + h.width * h.height) n l)
 
-  pub pixels-enough : (n : ℕ) → h.at + h.width * h.height ≤ n → Picture h.width h.height h.at ≡ pixels_answer h n
+  pub pixels-enough : (n : ℕ) → h.at + h.width * h.height ≤ n → give (image h.width h.height h.at) ≡ pixels_answer h n
   unfolding pixels_answer found
   pixels-enough n l = rw (le-leb (h.at + h.width * h.height) n l)
 

@@ -16,11 +16,12 @@ use borrow.Author.Tests.{leb-true, le-leb, lt-leb}
 use Rattle.laws.specs.Check.{or_refuse}
 use Rattle.laws.specs.Lent.{Stored}
 use Rattle.laws.proofs.Stores.{stored-append, stored-laid}
+use Rattle.refusal.specs.Numbers.{answered}
 use Rattle.picture_checks.specs.Picture.{is_side, check_picture}
 use Rattle.picture_checks.proofs.Checked.{check-on, check-off, check-step}
 use Rattle.text.specs.Text.{decimal}
-use Rattle.pgm.specs.Doors.{header_text, file_text, check_write, wrote, file_after}
-use Rattle.pgm.specs.declared.Written.TheVariants.{Bytes, Refused}
+use Rattle.pgm.specs.Doors.{header_text, file_text, check_write, file_after}
+use Rattle.laws.specs.Said.{give, refuse}
 
 -- ---- the file
 pub header-length : (w h : ℕ) → length (header_text w h) ≡ 9 + length (decimal w) + length (decimal h)
@@ -66,17 +67,17 @@ write-room w h s room n e on =
 
 -- the answer and the lent list, for the number n that the checks gave
 pub written : (n m : ℕ) (text old new : List ℕ) (r : ℕ) → n ≡ m → n ≡ 0 → length text ≤ length old → Stored 0 text old new r
-    → (Bytes r ≡ wrote m (length text)) × (new ≡ file_after m text old)
-unfolding wrote file_after
+    → (give r ≡ answered m (length text)) × (new ≡ file_after m text old)
+unfolding answered file_after
 written n m text old new r e on fit v =
-    subst (λ (k : ℕ). (Bytes r ≡ wrote k (length text)) × (new ≡ file_after k text old)) (sym on ∙ e)
-    (unfold wrote file_after in (ap Bytes (v.next ∙ zero-add (length text)), stored-laid v fit))
+    subst (λ (k : ℕ). (give r ≡ answered k (length text)) × (new ≡ file_after k text old)) (sym on ∙ e)
+    (unfold answered file_after in (ap give (v.next ∙ zero-add (length text)), stored-laid v fit))
 
 pub unwritten : (n m : ℕ) (text old : List ℕ) → n ≡ m → (n ≡ 0 → ⊥)
-    → (Refused n ≡ wrote m (length text)) × (old ≡ file_after m text old)
+    → (refuse n ≡ answered m (length text)) × (old ≡ file_after m text old)
 unwritten n m text old e off =
-    subst (λ (k : ℕ). (Refused n ≡ wrote k (length text)) × (old ≡ file_after k text old)) e (go n off)
+    subst (λ (k : ℕ). (refuse n ≡ answered k (length text)) × (old ≡ file_after k text old)) e (go n off)
   where
-    go : (n : ℕ) → (n ≡ 0 → ⊥) → (Refused n ≡ wrote n (length text)) × (old ≡ file_after n text old)
+    go : (n : ℕ) → (n ≡ 0 → ⊥) → (refuse n ≡ answered n (length text)) × (old ≡ file_after n text old)
     go zero off = absurd (off refl)
-    go (suc n) off = unfold wrote file_after in (refl, refl)
+    go (suc n) off = unfold answered file_after in (refl, refl)

@@ -1,12 +1,12 @@
 -- Statements of theorems on PGM files, in the words of change request W1. Assumes nothing.
 use Rattle.std.specs.Prelude.{◌≡◌, List, ◌++◌, ℕ, length}
+use Rattle.laws.specs.Said.{give}
 use Rattle.pgm.specs.Form.{file_width, file_height, file_start}
-use Rattle.pgm.specs.Doors.{check_file, file_answer, file_pixels, file_text, check_write, file_after, rewritten}
-use Rattle.pgm.specs.declared.File.TheVariants.{Picture}
+use Rattle.pgm.specs.Doors.{check_file, file_answer, image, file_pixels, file_text, check_write, file_after, rewritten}
 
 -- The reader finds in a file a picture of w by h with the pixels s.
 pub record Holds (file : List ℕ) (w h : ℕ) (s : List ℕ) : Type 0 where
-  pub answer : file_answer file ≡ Picture w h (file_start file)
+  pub answer : file_answer file ≡ give (image w h (file_start file))
   pub pixels : file_pixels file ≡ s
 
 -- A written picture reads back to the same sides and bytes: from the file alone, and from the lent list that the writer leaves, whatever

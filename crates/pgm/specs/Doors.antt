@@ -6,10 +6,7 @@ use Rattle.laws.specs.Said.{Said, refuse, give}
 use Rattle.picture_checks.specs.Picture.{is_side, check_picture}
 use Rattle.text.specs.Text.{decimal}
 use Rattle.pgm.specs.Form.{has_form, file_width, file_height, file_maximum, file_start}
-use Rattle.pgm.specs.declared.File.{File}
-use Rattle.pgm.specs.declared.File.TheVariants as file
-use Rattle.pgm.specs.declared.Written.{Written}
-use Rattle.pgm.specs.declared.Written.TheVariants as written
+use Rattle.pgm.specs.declared.Image.{Image}
 
 -- ---- the reader
 -- 14: the header does not follow the form, or its last white-space byte is not among the first 4,096 bytes. 15: another maximum value
@@ -29,18 +26,17 @@ check_pixels s = or_refuse (leb (file_start s + file_width s * file_height s) (l
 unfoldable pub check_file : List ℕ → ℕ
 check_file s = check_header s (check_pixels s)
 
+-- A picture by its sides and the place of its pixels.
+abbrev pub image : ℕ → ℕ → ℕ → Image
+image width height start = record { width = width; height = height; at = start }
+
 -- The answer for the number of a refusal, or the sides and the place of the pixels.
-unfoldable pub found : ℕ → ℕ → ℕ → ℕ → File
-found zero width height start = file.Picture width height start
-found (suc n) width height start = file.Refused (suc n)
+unfoldable pub found : ℕ → ℕ → ℕ → ℕ → Said Image
+found zero width height start = give (image width height start)
+found (suc n) width height start = refuse (suc n)
 
-unfoldable pub file_answer : List ℕ → File
+unfoldable pub file_answer : List ℕ → Said Image
 file_answer s = found (check_file s) (file_width s) (file_height s) (file_start s)
-
--- What an answer says: width, height, and the place of the pixels.
-abbrev pub file_said : File → Said (ℕ × ℕ × ℕ)
-file_said (file.Picture width height start) = give (width, height, start)
-file_said (file.Refused n) = refuse n
 
 -- The pixels of a file that is accepted.
 unfoldable pub file_pixels : List ℕ → List ℕ
@@ -58,16 +54,6 @@ file_text w h s = header_text w h ++ s
 -- 1 and 2 as for every picture, then 3: fewer places in the lent list than bytes of the file. 0: no refusal.
 unfoldable pub check_write : ℕ → ℕ → List ℕ → ℕ → ℕ
 check_write w h s room = check_picture w h (length s) (or_refuse (leb (length (file_text w h s)) room) 3 0)
-
--- The answer for the number of a refusal, or how many bytes were written.
-unfoldable pub wrote : ℕ → ℕ → Written
-wrote zero bytes = written.Bytes bytes
-wrote (suc n) bytes = written.Refused (suc n)
-
--- What an answer says: how many bytes.
-abbrev pub written_said : Written → Said ℕ
-written_said (written.Bytes n) = give n
-written_said (written.Refused n) = refuse n
 
 -- The lent list after the call: the file in its first places and the rest untouched, or as it was.
 unfoldable pub file_after : ℕ → List ℕ → List ℕ → List ℕ

@@ -1,10 +1,11 @@
 -- The checks of a header that has been read byte by byte. Definitions only. Assumes nothing.
 use Rattle.std.specs.Prelude.{ℕ, ◌+◌, ◌*◌, ◌≤◌, eqb, leb}
 use Rattle.laws.specs.Check.{or_refuse}
+use Rattle.laws.specs.Said.{Said}
 use Rattle.picture_checks.specs.Picture.{is_side}
 use Rattle.pgm.specs.Steps.{is_whole}
 use Rattle.pgm.specs.Doors.{found}
-use Rattle.pgm.specs.declared.File.{File}
+use Rattle.pgm.specs.declared.Image.{Image}
 use Rattle.pgm.specs.declared.steps.Reading.{Reading}
 
 -- 14: not whole. 15: another maximum value than 255. 1: a side outside 1..4,096. What follows these is `rest`.
@@ -23,5 +24,5 @@ pub record Passed (h : Reading) : Type 0 where
   pub near : h.at ≤ 4096
 
 -- The answer for a file of n bytes whose header has passed. 2: too few pixel bytes.
-unfoldable pub pixels_answer : Reading → ℕ → File
+unfoldable pub pixels_answer : Reading → ℕ → Said Image
 pixels_answer h n = found (or_refuse (leb (h.at + h.width * h.height) n) 2 0) h.width h.height h.at

@@ -1,5 +1,5 @@
 // What the bytes of a header are, and where they lead.
-ghost use Rattle.std.specs.Prelude.{◌≡◌, ◌<◌, min};
+ghost use Rattle.std.specs.Prelude.{◌≡◌, ◌<◌};
 ghost use Rattle.pgm.specs.Form.{is_white, is_digit, is_line_end};
 ghost use Rattle.pgm.specs.Steps.{after_white, after_digit, next_stage, pushed};
 
@@ -92,17 +92,7 @@ pub(crate) fn push(n: usize, b: u8) -> usize
     if b < b'0' {
         return 10 * n;
     }
-    capped(10 * n + wide(b - b'0'))
-}
-
-// n, or 9,999 where it is above.
-fn capped(n: usize) -> usize
-    ensures { result ≡ min n 9999 }
-{
-    if 9999 < n {
-        return 9999;
-    }
-    n
+    (10 * n + wide(b - b'0')).min(9999)
 }
 
 fn wide(b: u8) -> usize

@@ -1,10 +1,12 @@
 // The checks of a header that has been read.
 ghost use Rattle.std.specs.Prelude.{◌≡◌};
 ghost use Rattle.picture_checks.specs.Picture.{is_side};
+ghost use Rattle.refusal.specs.Numbers.{number_in};
 ghost use Rattle.pgm.specs.Steps.{is_whole};
 ghost use Rattle.pgm.specs.Head.{check_head};
 
 use crate::steps::{Reading, Stage};
+use refusal::Refusal;
 
 // The header is whole.
 fn whole(stage: Stage) -> bool
@@ -25,23 +27,23 @@ fn is_side(n: usize) -> bool
     n <= 4096
 }
 
-// 14 for a header that is not whole, 15 for another maximum value than 255, 1 for a side outside
-// 1..4,096, else 0.
-pub fn check_head(h: Reading) -> u32
-    ensures { result ≡ check_head h 0 }
+// Header for one that is not whole, Maximum for another maximum value than 255, Side for a side
+// outside 1..4,096.
+pub fn check_head(h: Reading) -> Result<(), Refusal>
+    ensures { number_in result ≡ check_head h 0 }
 {
     let stage = h.stage;
     if !whole(stage) {
-        return 14;
+        return Err(Refusal::Header);
     }
     if h.maximum != 255 {
-        return 15;
+        return Err(Refusal::Maximum);
     }
     if !is_side(h.width) {
-        return 1;
+        return Err(Refusal::Side);
     }
     if !is_side(h.height) {
-        return 1;
+        return Err(Refusal::Side);
     }
-    0
+    Ok(())
 }

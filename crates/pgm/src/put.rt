@@ -1,9 +1,11 @@
 // The file of a picture, written into a lent list.
 ghost use Rattle.std.specs.Prelude.{◌≡◌, ◌<◌, ◌≤◌, length};
 ghost use Rattle.laws.specs.Lent.{Stored};
+ghost use Rattle.refusal.specs.Numbers.{number_in};
 ghost use Rattle.text.specs.Text.{decimal};
 ghost use Rattle.pgm.specs.Doors.{header_text, file_text, check_write};
 
+use refusal::Refusal;
 use text::{put_byte, put_number, put_word};
 
 // How many digits a number below 10,000 has.
@@ -33,19 +35,16 @@ fn header_len(w: usize, h: usize) -> usize
     9 + digits(w) + digits(h)
 }
 
-// 1, 2 and 3, in that order; 0 where nothing is to be refused.
-pub(crate) fn check(pixels: &[u8], w: usize, h: usize, room: usize) -> u32
-    ensures { result ≡ check_write w h pixels.now room }
+// The first check that fails: 1, 2 and 3, in that order.
+pub(crate) fn check(pixels: &[u8], w: usize, h: usize, room: usize) -> Result<(), Refusal>
+    ensures { number_in result ≡ check_write w h pixels.now room }
 {
     let bytes = pixels.len();
-    let n = picture_checks::check_picture(w, h, bytes);
-    if n != 0 {
-        return n;
-    }
+    picture_checks::check_picture(w, h, bytes)?;
     if room < header_len(w, h) + bytes {
-        return 3;
+        return Err(Refusal::Lent);
     }
-    0
+    Ok(())
 }
 
 // The header of a picture.

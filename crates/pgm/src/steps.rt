@@ -5,6 +5,7 @@ ghost use Rattle.pgm.specs.Steps.{begun, is_ended, in_comment, moved_to, one_mor
 use crate::bytes::{is_line_end, next_stage, push};
 
 // How far the header has been read.
+// Kept: a stage is a state of the reading and no step to run: one loop and one table serve all.
 #[derive(Clone, Copy)]
 pub enum Stage {
     // After the letters: white space has to come.
@@ -76,11 +77,9 @@ fn counted(h: Reading, comment: bool) -> Reading
     let same = h.stage;
     Reading {
         stage: same,
-        comment: comment,
-        width: h.width,
-        height: h.height,
-        maximum: h.maximum,
-        at: at,
+        comment,
+        at,
+        ..h
     }
 }
 
@@ -133,11 +132,7 @@ fn cut_short(h: Reading) -> Reading
 {
     Reading {
         stage: Stage::Wrong,
-        comment: h.comment,
-        width: h.width,
-        height: h.height,
-        maximum: h.maximum,
-        at: h.at,
+        ..h
     }
 }
 
@@ -159,13 +154,11 @@ pub fn run(s: &[u8]) -> Reading
     ensures { result ≡ steps_over begun (drop 2 s.now) }
 {
     let mut h = begin();
-    let mut i: usize = 2;
-    while i < s.len() {
+    for i in 2..s.len() {
         if ended(h) {
             return h;
         }
         h = step(h, s[i]);
-        i += 1;
     }
     h
 }

@@ -1,18 +1,14 @@
 -- The outcome of the door put together: checks in order, the level grid for the marks, marks for the labels, labels for the regions.
---     the level grid, the checks: levelled-of, lists-passed, level-cells-few
+--     the level grid: levelled-of, level-cells-few
 --     marks, then labels: mapped
 --     the regions of the labels: labelled_by, labels-most, many-most
---     the answer: answer-refused
 -- Assumes nothing.
 use mathlib.Core.List.{List, ◌++◌}
-use mathlib.Core.Path.{◌∙◌, ◌≡◌, ap, ap₂, refl, sym}
-use Prim.Native.Nat.{◌*◌, ◌≤◌, suc, zero, ℕ}
+use mathlib.Core.Path.{◌∙◌, ◌≡◌, ap, ap₂, sym}
+use Prim.Native.Nat.{◌*◌, ◌≤◌, ℕ}
 use native.Mathlib.Nat.{mul_comm, mul-le-mul}
 use native.Mathlib.Omega.{arith}
-use lib.Dec.{leb, lit<}
 use lib.ListN.{drop, get_or, length, take}
-use borrow.Author.Tests.{leb-true}
-use Rattle.picture_checks.proofs.Checked.{check-step}
 use Rattle.picture_checks.specs.Picture.{Picture}
 use Rattle.labels.proofs.InkCells.{cells-drawn, marks-are, tab-all}
 use Rattle.labels.proofs.Pushes.{picture-pushes}
@@ -29,12 +25,10 @@ use Rattle.laws.proofs.Writes.{written-ext}
 use Rattle.laws.specs.Lent.{UntouchedPast, laid}
 use Rattle.laws.specs.Plane.{Plane, drawn, plane, rowwise}
 use Rattle.levels.specs.Level.{cells, level}
-use Rattle.picture.specs.Inner.{check_lists, LabelledBy, ListRooms}
+use Rattle.picture.specs.Inner.{LabelledBy}
 use Rattle.labels.proofs.MovedGroups.{cell-of}
 use Rattle.labels.specs.Cells.{cell_label, cells8, cells_of, groups_of, ink_cell, label_at}
-use Rattle.picture.specs.Door.{answer_by, refused_by}
 use Rattle.labels.specs.Labels.{first?, near}
-use Rattle.regions.specs.declared.answer.Kept.{Kept}
 
 -- the level grid that marks are made by
 pub levelled-of : {s grid : List ℕ} {w h : ℕ} (old : List ℕ) → Picture s w h → grid ≡ drawn (cells w) (cells h) (level (plane w s) w h) old
@@ -44,15 +38,6 @@ levelled-of {s} {grid} {w} {h} old picture is room = record {
   room = room;
   held = λ x y lx ly. rw is (plane-drawn (cells w) (cells h) (level (plane w s) w h) old x y lx ly);
 }
-
--- what the checks of the lent lists tell where none refuses
-pub lists-passed : (w h grid labels stack : ℕ) → check_lists (cells w * cells h) (cells_of w h) grid labels stack ≡ 0
-    → ListRooms w h grid labels stack
-lists-passed w h grid labels stack e =
-    let g = check-step (leb (cells w * cells h) grid) 3 _ (lit< tt) e in
-    let l = check-step (leb (cells_of w h) labels) 3 _ (lit< tt) g.1 in
-    let s = check-step (leb (cells_of w h) stack) 3 0 (lit< tt) l.1 in
-    record { grids = leb-true _ _ g.0; label = leb-true _ _ l.0; room = leb-true _ _ s.0 }
 
 -- there are no fewer region cells than level cells
 pub level-cells-few : (w h : ℕ) → cells w * cells h ≤ cells_of w h
@@ -123,8 +108,3 @@ module _ {s labels : List ℕ} {w h v : ℕ} (by : LabelledBy s w h labels v) wh
   pub many-most : v ≤ cells_of w h
   unfolding groups_of
   many-most = omega (arith, by.all, count_most (first? (ink_cell (plane w s) w h) (near (cells8 w)) (cells_of w h)) (cells_of w h))
-
--- ---- the answer
-pub answer-refused : (n : ℕ) (k : Kept) → (n ≡ 0 → ⊥) → refused_by n ≡ answer_by n k
-answer-refused zero k some = absurd (some refl)
-answer-refused (suc n) k some = refl

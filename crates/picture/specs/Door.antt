@@ -3,13 +3,13 @@
 use Rattle.std.specs.Prelude.{Bool, true, false, cond, List, ◌≡◌, ℕ, zero, suc, ◌*◌, eqb, leb, length}
 use Rattle.laws.specs.Lent.{UntouchedPast}
 use Rattle.laws.specs.Check.{or_refuse}
+use Rattle.laws.specs.Said.{Said, refuse, give}
 use Rattle.picture_checks.specs.Picture.{check_picture}
 use Rattle.laws.specs.Plane.{plane, drawn}
 use Rattle.levels.specs.Level.{cells, level}
 use Rattle.labels.specs.Cells.{cells8, cells_of, label_at}
 use Rattle.regions.specs.declared.answer.Kept.{Kept}
-use Rattle.picture.specs.declared.answer.PictureAnswer.{PictureAnswer}
-use Rattle.regions.specs.Regions.{kept_regions, no_regions}
+use Rattle.regions.specs.Regions.{kept_regions}
 
 -- ---- the checks
 
@@ -24,16 +24,13 @@ check_grids w h bytes grid labels stack =
 
 -- ---- the answer, and the lent lists
 
--- A refusal by its number; the answer by the number of the refusal, 0 where there is none.
-abbrev pub refused_by : ℕ → PictureAnswer
-refused_by n = record { refused = n; regions = no_regions }
-
-abbrev pub answer_by : ℕ → Kept → PictureAnswer
-answer_by zero k = record { refused = 0; regions = k }
-answer_by (suc n) k = refused_by (suc n)
+-- The answer by the number of the refusal, 0 where there is none.
+abbrev pub answer_by : ℕ → Kept → Said Kept
+answer_by zero k = give k
+answer_by (suc n) k = refuse (suc n)
 
 -- The answer for a picture s and lent lists of so many places.
-abbrev pub picture_answer : List ℕ → ℕ → ℕ → ℕ → ℕ → ℕ → PictureAnswer
+abbrev pub picture_answer : List ℕ → ℕ → ℕ → ℕ → ℕ → ℕ → Said Kept
 picture_answer s w h grid labels stack = answer_by (check_grids w h (length s) grid labels stack) (kept_regions (plane w s) w h)
 
 -- By the answer's number n: the level grid and the labels after the call.

@@ -4,23 +4,22 @@
 ghost use Rattle.std.specs.Prelude.{◌≡◌, ◌*◌, ◌≤◌, length};
 ghost use Rattle.laws.specs.Plane.{plane, drawn};
 ghost use Rattle.levels.specs.Level.{cells, level};
+ghost use Rattle.refusal.specs.Numbers.{number_in, said};
 ghost use Rattle.picture_checks.specs.Picture.{Picture, Sides};
 ghost use Rattle.labels.specs.Cells.{cells8, cells_of, label_at, groups_of};
-ghost use Rattle.picture.specs.Door.{check_grids, refused_by, picture_answer, levels_after, labels_after, StackAfter};
+ghost use Rattle.picture.specs.Door.{check_grids, picture_answer, levels_after, labels_after, StackAfter};
 ghost use Rattle.regions.specs.Regions.{kept_regions};
 ghost use Rattle.laws.specs.Lent.{UntouchedPast};
 ghost use Rattle.picture.specs.Inner.{check_lists, ListRooms, LabelledBy};
 
-use crate::answer::PictureAnswer;
 use labels::cells::{cells_in, mark_cells, region_cells};
 use labels::groups::label_all;
 use levels::cells::cells_of;
 use levels::level_grid;
 use picture_checks::check_picture;
-use regions::answer::{Kept, Region};
+use refusal::Refusal;
+use regions::answer::Kept;
 use regions::top::regions;
-
-pub mod answer;
 
 // How many level cells a picture has.
 fn level_cells(w: usize, h: usize) -> usize
@@ -32,30 +31,34 @@ fn level_cells(w: usize, h: usize) -> usize
 
 // The checks of the lent lists, by how many places they have, of which `a` are needed in the level
 // grid and `n` in each of the others.
-fn check_lists(a: usize, n: usize, grid: usize, labels: usize, stack: usize) -> u32
-    ensures { result ≡ check_lists a n grid labels stack }
+fn check_lists(a: usize, n: usize, grid: usize, labels: usize, stack: usize) -> Result<(), Refusal>
+    ensures { number_in result ≡ check_lists a n grid labels stack }
 {
     if grid < a {
-        return 3;
+        return Err(Refusal::Lent);
     }
     if labels < n {
-        return 3;
+        return Err(Refusal::Lent);
     }
     if stack < n {
-        return 3;
+        return Err(Refusal::Lent);
     }
-    0
+    Ok(())
 }
 
 // All checks in order.
-pub fn check(w: usize, h: usize, bytes: usize, grid: usize, labels: usize, stack: usize) -> u32
-    ensures answer { result ≡ check_grids w h bytes grid labels stack }
-    ensures passed { result ≡ 0 → Sides w h bytes × ListRooms w h grid labels stack }
+pub fn check(
+    w: usize,
+    h: usize,
+    bytes: usize,
+    grid: usize,
+    labels: usize,
+    stack: usize,
+) -> Result<(), Refusal>
+    ensures answer { number_in result ≡ check_grids w h bytes grid labels stack }
+    ensures passed { number_in result ≡ 0 → Sides w h bytes × ListRooms w h grid labels stack }
 {
-    let no = check_picture(w, h, bytes);
-    if no != 0 {
-        return no;
-    }
+    check_picture(w, h, bytes)?;
     check_lists(level_cells(w, h), cells_in(w, h), grid, labels, stack)
 }
 
@@ -98,28 +101,6 @@ fn count_regions(s: &[u8], w: usize, h: usize, labels: &[u32], stack: &mut [u32]
     regions(&labels[..n], &mut stack[..m], cw, ch, w, h)
 }
 
-// The answer of a refusal: its number, and no regions.
-pub fn refusal(n: u32) -> PictureAnswer
-    ensures { result ≡ refused_by n }
-{
-    let none = Region {
-        label: 0,
-        cells: 0,
-        x0: 0,
-        y0: 0,
-        x1: 0,
-        y1: 0,
-    };
-    PictureAnswer {
-        refused: n,
-        regions: Kept {
-            all: 0,
-            kept: 0,
-            list: [none; 4],
-        },
-    }
-}
-
 // The picture door. It lends a grid of one byte a level cell, and two lists of one number a region
 // cell: labels and the stack. Refusals: 1, a side outside 1..4,096; 2, bytes not width times
 // height; 3, a lent list too short.
@@ -130,23 +111,17 @@ pub fn picture(
     grid: &mut [u8],
     labels: &mut [u32],
     stack: &mut [u32],
-) -> PictureAnswer
-    ensures answer { result ≡ picture_answer s.now w h (length grid.old)
+) -> Result<Kept, Refusal>
+    ensures answer { said result ≡ picture_answer s.now w h (length grid.old)
         (length labels.old) (length stack.old) }
     ensures levels { grid.new
-        ≡ levels_after result.refused s.now w h grid.old }
+        ≡ levels_after (number_in result) s.now w h grid.old }
     ensures labels { labels.new
-        ≡ labels_after result.refused s.now w h labels.old }
-    ensures stack { StackAfter result.refused w h stack.old stack.new }
+        ≡ labels_after (number_in result) s.now w h labels.old }
+    ensures stack { StackAfter (number_in result) w h stack.old stack.new }
 {
-    let no = check(w, h, s.len(), grid.len(), labels.len(), stack.len());
-    if no != 0 {
-        return refusal(no);
-    }
+    check(w, h, s.len(), grid.len(), labels.len(), stack.len())?;
     let v = ink_map(s, w, h, grid, labels, stack);
     let found = count_regions(s, w, h, labels, stack, v);
-    PictureAnswer {
-        refused: 0,
-        regions: found,
-    }
+    Ok(found)
 }

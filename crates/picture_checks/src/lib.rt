@@ -2,38 +2,36 @@
 #![tactic(auto)]
 
 ghost use Rattle.std.specs.Prelude.{◌≡◌};
-ghost use Rattle.picture_checks.specs.Picture.{check_picture, Sides};
+ghost use Rattle.refusal.specs.Numbers.{number_in};
+ghost use Rattle.picture_checks.specs.Picture.{is_side, check_picture, Sides};
 ghost use Rattle.picture_checks.specs.Points.{is_points};
 
-// The number of the first check of a picture's sides and bytes that fails, else 0.
-pub fn check_picture(w: usize, h: usize, bytes: usize) -> u32
-    ensures answer { result ≡ check_picture w h bytes 0 }
-    ensures passed { result ≡ 0 → Sides w h bytes }
+use refusal::Refusal;
+
+// Whether a picture may have a side of so many pixels.
+fn is_side(n: usize) -> bool
+    ensures { result ≡ is_side n }
 {
-    if w < 1 {
-        return 1;
-    }
-    if 4096 < w {
-        return 1;
-    }
-    if h < 1 {
-        return 1;
-    }
-    if 4096 < h {
-        return 1;
+    (1..=4096).contains(&n)
+}
+
+// The first check of a picture's sides and bytes that fails refuses it.
+pub fn check_picture(w: usize, h: usize, bytes: usize) -> Result<(), Refusal>
+    ensures answer { number_in result ≡ check_picture w h bytes 0 }
+    ensures passed { number_in result ≡ 0 → Sides w h bytes }
+{
+    if !is_side(w) || !is_side(h) {
+        return Err(Refusal::Side);
     }
     if bytes != w * h {
-        return 2;
+        return Err(Refusal::Bytes);
     }
-    0
+    Ok(())
 }
 
 // Whether so many numbers are points: two each, and at most 16,384 of them.
 pub fn is_points(n: usize) -> bool
     ensures { result ≡ is_points n }
 {
-    if n % 2 != 0 {
-        return false;
-    }
-    n <= 32768
+    n % 2 == 0 && n <= 32768
 }

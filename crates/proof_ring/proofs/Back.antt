@@ -31,15 +31,15 @@ use Rattle.marks.proofs.Poses.{counts-moved, pose-within}
 use Rattle.marks.proofs.Rises.{score-full}
 use Rattle.marks.specs.Classify.{marks_of}
 use Rattle.marks.specs.Correlate.{best_pose, score}
-use Rattle.marks.specs.Doors.{correlate_answer, marked_pose}
+use Rattle.marks.specs.Doors.{correlate_answer, marked_pose, pose_and_counts}
 use Rattle.marks.specs.Pose.{MarksMoved, agreement, corner_to, counts_of, pose_at, reversed_to}
-use Rattle.marks.specs.declared.correlate.Best.TheVariants.{Pose}
-use Rattle.marks.specs.declared.correlate.Best.TheVariants as answers
+use Rattle.marks.specs.declared.correlate.Pose.{Pose}
+use Rattle.marks.specs.declared.correlate.Correlated.{Correlated}
+use Rattle.laws.specs.Said.{Said, give, refuse}
 use Rattle.proof_ring.specs.Claims.{ReadBack, ReadBackAt, SamePose, marks_back, sequence}
 use Rattle.proof_ring.specs.Doors.{answer_of, check_drawing, check_plan, draw_answer, least_side}
 use Rattle.proof_ring.specs.Picture.{grey_of, posed, ring_pixel, ring_square, square_side}
 use Rattle.proof_ring.specs.Reading.{centre, light_read, marks_read}
-use Rattle.proof_ring.specs.declared.Answer.TheVariants.{Done}
 use Rattle.proof_ring.proofs.Boxes.{framed_at}
 use Rattle.proof_ring.proofs.Centres.{centre-cell, centre-in}
 use Rattle.proof_ring.proofs.Squares.{square-mark}
@@ -150,28 +150,34 @@ read_back v pitch r reversed old w h is some few wide high = record { agrees = a
     winner : best_pose (counts_of v marks) ≡ at
     winner = best-only (counts_of v marks) at (positions_of v) top lower (place-few r reversed few4)
 
-    answer : marked_pose v marks ≡ Pose (score v (positions_of v)) r reversed
+    posed-as : Float → ℕ → Bool → Pose
+    posed-as x k b = record { score = x; corner = k; reversed = b }
+
+    answer : marked_pose v marks ≡ posed-as (score v (positions_of v)) r reversed
     answer =
-        ap (λ (k : ℕ). Pose (score v (get_or (counts_of v marks) k 0)) (k % 4) (leb 4 k)) winner
-        ∙ ap (λ (n : ℕ). Pose (score v n) (at % 4) (leb 4 at)) top
-        ∙ ap (λ (k : ℕ). Pose (score v (positions_of v)) k (leb 4 at)) (place-corner r reversed few4)
-        ∙ ap (λ (b : Bool). Pose (score v (positions_of v)) r b) (place-reversed r reversed few4)
+        ap (λ (k : ℕ). posed-as (score v (get_or (counts_of v marks) k 0)) (k % 4) (leb 4 k)) winner
+        ∙ ap (λ (n : ℕ). posed-as (score v n) (at % 4) (leb 4 at)) top
+        ∙ ap (λ (k : ℕ). posed-as (score v (positions_of v)) k (leb 4 at)) (place-corner r reversed few4)
+        ∙ ap (λ (b : Bool). posed-as (score v (positions_of v)) r b) (place-reversed r reversed few4)
 
     many : length marks ≡ positions_of v
     many = unfold marks_read in (marks-length (positions_of v) (light_read v pitch (drawn w h (ring_pixel v pitch r reversed) old) w))
 
-    best : correlate_answer v marks ≡ Pose (of_bits binary32 1065353216) r reversed
+    given : Pose → Said Correlated
+    given b = give (record { best = b; counts = counts_of v marks })
+
+    best : correlate_answer v marks ≡ given (posed-as (of_bits binary32 1065353216) r reversed)
     best =
-        sym (refuse-yes (is_version v) (answers.Refused 8) (or_refuse (eqb (length marks) (positions_of v)) (answers.Refused 11)
-        (marked_pose v marks))
+        sym (refuse-yes (is_version v) (refuse 8) (or_refuse (eqb (length marks) (positions_of v)) (refuse 11)
+        (give (pose_and_counts v marks)))
         (version-passes v is))
-        ∙ sym (refuse-yes (eqb (length marks) (positions_of v)) (answers.Refused 11) (marked_pose v marks)
+        ∙ sym (refuse-yes (eqb (length marks) (positions_of v)) (refuse 11) (give (pose_and_counts v marks))
         (eq-eqb (length marks) (positions_of v) many))
-        ∙ answer
-        ∙ ap (λ (x : Float). Pose x r reversed) (score-full v is)
+        ∙ ap given answer
+        ∙ ap (λ (x : Float). given (posed-as x r reversed)) (score-full v is)
 
 -- what an accepted drawing's checks told
-taken : (v pitch r : ℕ) (reversed : Bool) (old : List ℕ) (w h : ℕ) → draw_answer v pitch r old w h ≡ Done
+taken : (v pitch r : ℕ) (reversed : Bool) (old : List ℕ) (w h : ℕ) → draw_answer v pitch r old w h ≡ give tt
     → ReadBackAt v pitch r reversed old w h
 taken v pitch r reversed old w h done =
     let s1 = check-step (is_version v) 8 (check_picture w h (length old) (check_plan v pitch r w h 0)) (omega arith)
@@ -186,7 +192,7 @@ taken v pitch r reversed old w h done =
     read_back v pitch r reversed old w h (is-version v s1.0) (leb-true 1 pitch (and_left (leb 1 pitch) (leb pitch 16) s5.0))
     (leb-true r 3 s6.0) (leb-true (least_side v pitch) w s7.0) (leb-true (least_side v pitch) h s8.0)
   where
-    none-refused : (n : ℕ) → answer_of n ≡ Done → n ≡ 0
+    none-refused : (n : ℕ) → answer_of n ≡ give tt → n ≡ 0
     none-refused zero e = refl
     none-refused (suc n) e = absurd (let z : ◌≡◌ {A = ℕ} 0 1 = cc in omega arith)
 

@@ -4,7 +4,7 @@ use mathlib.Core.Bool.{Bool, true, false}
 use mathlib.Core.List.{List, [], ◌∷◌}
 use Prim.Native.Nat.{ℕ}
 use Rattle.laws.specs.Fold.{tab}
-use Rattle.lcr_core.specs.Border.{edge_of, offset_of, on_edge, outer_x, outer_y, pick_place, position_at}
+use Rattle.lcr_core.specs.Border.{edge_of, offset_of, on_edge, outer_x, outer_y, position_at}
 use Rattle.lcr_core.specs.Mark.{mark, mark_at, ring_byte, row_start, rows_through}
 use Rattle.lcr_core.specs.Ring.{ring_bytes}
 use Rattle.proof_ring.specs.Picture.{carries, framed, grey_at, posed, ring_pixel, ring_square, turns}
@@ -17,7 +17,7 @@ row r reversed y = tab 31 (λ x. ring_pixel 1 1 r reversed x y)
 row-outer-0 : row 0 false 2 ≡
     255 ∷ 255 ∷ 0 ∷ 255 ∷ 0 ∷ 0 ∷ 255 ∷ 0 ∷ 255 ∷ 0 ∷ 0 ∷ 255 ∷ 255 ∷ 255 ∷ 0 ∷ 255 ∷ 255 ∷ 255 ∷ 0 ∷ 255 ∷ 255 ∷ 0 ∷ 0 ∷ 0 ∷
     255 ∷ 0 ∷ 255 ∷ 0 ∷ 0 ∷ 255 ∷ 255 ∷ []
-unfolding row tab ring_pixel framed posed turns ring_square grey_at carries position_at pick_place edge_of offset_of on_edge outer_x outer_y mark mark_at
+unfolding row tab ring_pixel framed posed turns ring_square grey_at carries position_at edge_of offset_of on_edge outer_x outer_y mark mark_at
     ring_byte row_start rows_through ring_bytes
 row-outer-0 = refl
 
@@ -25,7 +25,7 @@ row-outer-0 = refl
 row-inner-0 : row 0 false 3 ≡
     255 ∷ 255 ∷ 255 ∷ 255 ∷ 255 ∷ 0 ∷ 255 ∷ 255 ∷ 255 ∷ 255 ∷ 255 ∷ 255 ∷ 255 ∷ 255 ∷ 0 ∷ 255 ∷ 255 ∷ 255 ∷ 255 ∷ 255 ∷ 255 ∷
     255 ∷ 255 ∷ 0 ∷ 255 ∷ 255 ∷ 255 ∷ 255 ∷ 0 ∷ 255 ∷ 255 ∷ []
-unfolding row tab ring_pixel framed posed turns ring_square grey_at carries position_at pick_place edge_of offset_of on_edge outer_x outer_y mark mark_at
+unfolding row tab ring_pixel framed posed turns ring_square grey_at carries position_at edge_of offset_of on_edge outer_x outer_y mark mark_at
     ring_byte row_start rows_through ring_bytes
 row-inner-0 = refl
 
@@ -33,7 +33,7 @@ row-inner-0 = refl
 row-inner-1 : row 1 false 3 ≡
     255 ∷ 255 ∷ 255 ∷ 255 ∷ 255 ∷ 255 ∷ 255 ∷ 255 ∷ 0 ∷ 255 ∷ 255 ∷ 255 ∷ 255 ∷ 255 ∷ 255 ∷ 255 ∷ 255 ∷ 0 ∷ 255 ∷ 255 ∷ 255 ∷
     255 ∷ 255 ∷ 255 ∷ 255 ∷ 255 ∷ 0 ∷ 255 ∷ 255 ∷ 255 ∷ 255 ∷ []
-unfolding row tab ring_pixel framed posed turns ring_square grey_at carries position_at pick_place edge_of offset_of on_edge outer_x outer_y mark mark_at
+unfolding row tab ring_pixel framed posed turns ring_square grey_at carries position_at edge_of offset_of on_edge outer_x outer_y mark mark_at
     ring_byte row_start rows_through ring_bytes
 row-inner-1 = refl
 
@@ -41,7 +41,7 @@ row-inner-1 = refl
 row-inner-0-reversed : row 0 true 3 ≡
     255 ∷ 255 ∷ 255 ∷ 255 ∷ 0 ∷ 255 ∷ 255 ∷ 255 ∷ 255 ∷ 255 ∷ 255 ∷ 255 ∷ 255 ∷ 0 ∷ 255 ∷ 255 ∷ 255 ∷ 255 ∷ 255 ∷ 255 ∷ 255 ∷
     255 ∷ 0 ∷ 255 ∷ 255 ∷ 255 ∷ 255 ∷ 255 ∷ 255 ∷ 255 ∷ 255 ∷ []
-unfolding row tab ring_pixel framed posed turns ring_square grey_at carries position_at pick_place edge_of offset_of on_edge outer_x outer_y mark mark_at
+unfolding row tab ring_pixel framed posed turns ring_square grey_at carries position_at edge_of offset_of on_edge outer_x outer_y mark mark_at
     ring_byte row_start rows_through ring_bytes
 row-inner-0-reversed = refl
 
@@ -49,7 +49,7 @@ row-inner-0-reversed = refl
 row-outer-3-reversed : row 3 true 28 ≡
     255 ∷ 255 ∷ 0 ∷ 255 ∷ 0 ∷ 0 ∷ 255 ∷ 0 ∷ 255 ∷ 0 ∷ 0 ∷ 255 ∷ 255 ∷ 255 ∷ 0 ∷ 255 ∷ 255 ∷ 255 ∷ 0 ∷ 255 ∷ 255 ∷ 0 ∷ 0 ∷ 0 ∷
     255 ∷ 0 ∷ 255 ∷ 0 ∷ 0 ∷ 255 ∷ 255 ∷ []
-unfolding row tab ring_pixel framed posed turns ring_square grey_at carries position_at pick_place edge_of offset_of on_edge outer_x outer_y mark mark_at
+unfolding row tab ring_pixel framed posed turns ring_square grey_at carries position_at edge_of offset_of on_edge outer_x outer_y mark mark_at
     ring_byte row_start rows_through ring_bytes
 row-outer-3-reversed = refl
 
@@ -57,6 +57,6 @@ row-outer-3-reversed = refl
 row-margin : row 2 true 29 ≡
     255 ∷ 255 ∷ 255 ∷ 255 ∷ 255 ∷ 255 ∷ 255 ∷ 255 ∷ 255 ∷ 255 ∷ 255 ∷ 255 ∷ 255 ∷ 255 ∷ 255 ∷ 255 ∷ 255 ∷ 255 ∷ 255 ∷ 255 ∷ 255 ∷
     255 ∷ 255 ∷ 255 ∷ 255 ∷ 255 ∷ 255 ∷ 255 ∷ 255 ∷ 255 ∷ 255 ∷ []
-unfolding row tab ring_pixel framed posed turns ring_square grey_at carries position_at pick_place edge_of offset_of on_edge outer_x outer_y mark mark_at
+unfolding row tab ring_pixel framed posed turns ring_square grey_at carries position_at edge_of offset_of on_edge outer_x outer_y mark mark_at
     ring_byte row_start rows_through ring_bytes
 row-margin = refl

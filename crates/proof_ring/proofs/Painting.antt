@@ -50,7 +50,7 @@ room-kept plan old new e r = record {
   corner = r.corner;
   wide = r.wide;
   width = r.width;
-  rows = subst (λ (n : ℕ). least_side plan.version.0 plan.pitch * plan.width ≤ n) (sym e) r.rows;
+  rows = subst (λ (n : ℕ). least_side plan.version plan.pitch * plan.width ≤ n) (sym e) r.rows;
 }
 
 -- what the loop over a box's rows needs
@@ -73,7 +73,7 @@ within-is q s to e w = let i = subst (Within q) (sym e) w in (i.across, i.down)
 
 module _ (plan : Plan) where
   abbrev v : ℕ
-  v = plan.version.0
+  v = plan.version
 
   abbrev posed_square : Plane → Plane
   posed_square g = posed (square_side v) plan.corner plan.reversed g

@@ -20,8 +20,7 @@ use Rattle.lcr_core.proofs.Signed.{low-range, read}
 use Rattle.lcr_core.specs.Border.{InRange, along_of, coordinate, depth_of, inner_cell, inward, is_two_deep, outer_cell, outer_x, outer_y, position_at}
 use Rattle.lcr_core.specs.Version.{IsVersion, positions_of, quarter_of}
 use Rattle.lcr_core.specs.declared.border.Cell.{Cell}
-use Rattle.lcr_core.specs.declared.border.Place.{Place}
-use Rattle.lcr_core.specs.declared.border.Place.TheVariants.{At, Outside}
+use Rattle.std.specs.Prelude.{Option, Some, None}
 use Rattle.proof_ring.specs.Inner.{inner_spot, is_place_at, outer_spot, own_inner}
 use Rattle.proof_ring.specs.declared.cells.Spot.{Spot}
 use Rattle.proof_ring.proofs.Turning.{Within}
@@ -105,7 +104,7 @@ spot_is cell s rx ry c ex ey =
 
 -- ---- inner cells that carry the mark
 
-module _ (v p : ℕ) (cell : Cell) (c : CellIs cell (inner_spot v p).x (inner_spot v p).y) (place : Place)
+module _ (v p : ℕ) (cell : Cell) (c : CellIs cell (inner_spot v p).x (inner_spot v p).y) (place : Option ℕ)
     (found : place ≡ position_at v (to_z w32 (of_z w32 cell.x)) (to_z w32 (of_z w32 cell.y))) (deep : is_two_deep p ≡ true) where
   place_is : position_at v (coordinate (inner_spot v p).x) (coordinate (inner_spot v p).y) ≡ place
   place_is =
@@ -117,13 +116,13 @@ module _ (v p : ℕ) (cell : Cell) (c : CellIs cell (inner_spot v p).x (inner_sp
   unfolding own_inner
   own-by =
       sym (ap (λ (t : Bool). t && is_place_at p (position_at v (coordinate (inner_spot v p).x) (coordinate (inner_spot v p).y))) deep
-      ∙ ap (λ (s : Place). is_place_at p s) place_is)
+      ∙ ap (λ (s : Option ℕ). is_place_at p s) place_is)
 
-  pub own-yes : (k : ℕ) → place ≡ At k → eqb k p ≡ own_inner v p
-  own-yes k e = sym (ap (λ (s : Place). is_place_at p s) e) ∙ own-by
+  pub own-yes : (k : ℕ) → place ≡ Some k → eqb k p ≡ own_inner v p
+  own-yes k e = sym (ap (λ (s : Option ℕ). is_place_at p s) e) ∙ own-by
 
-  pub own-outside : place ≡ Outside → false ≡ own_inner v p
-  own-outside e = sym (ap (λ (s : Place). is_place_at p s) e) ∙ own-by
+  pub own-outside : place ≡ None → false ≡ own_inner v p
+  own-outside e = sym (ap (λ (s : Option ℕ). is_place_at p s) e) ∙ own-by
 
 pub own-shallow : (v p : ℕ) → is_two_deep p ≡ false → false ≡ own_inner v p
 unfolding own_inner

@@ -14,30 +14,29 @@ use lib.IntN.{ℤ}
 use borrow.Author.Tests.{eq-eqb, eqb-true}
 use Rattle.laws.proofs.Bools.{and_left, and_right, both, either, falsely, or_left, or_right}
 use Rattle.lcr_core.proofs.Positions.{along-at, position-outer}
-use Rattle.lcr_core.specs.Border.{along_of, cell_at, coordinate, edge_of, inner_cell, inward, is_two_deep, offset_of, on_edge, outer_cell, outer_x, outer_y, pick_place, position_at, shell_of}
+use Rattle.lcr_core.specs.Border.{along_of, cell_at, coordinate, edge_of, inner_cell, inward, is_two_deep, offset_of, on_edge, outer_cell, outer_x, outer_y, position_at, shell_of}
 use Rattle.lcr_core.specs.Mark.{mark}
 use Rattle.lcr_core.specs.Version.{positions_of, quarter_of, side_of}
 use Rattle.lcr_core.specs.declared.border.Cell.{Cell}
-use Rattle.lcr_core.specs.declared.border.Place.{Place}
-use Rattle.lcr_core.specs.declared.border.Place.TheVariants.{At, Outside}
+use Rattle.std.specs.Prelude.{Option, Some, None}
 use Rattle.proof_ring.specs.Claims.{IsOuter, IsOwnInner}
 use Rattle.proof_ring.specs.Picture.{carries, grey_at, grey_of, is_cell, ring_square}
 
 -- ---- positions
 
-pub not-outside : (p : ℕ) → ◌≡◌ {A = Place} (At p) Outside → ⊥
+pub not-outside : (p : ℕ) → ◌≡◌ {A = Option ℕ} (Some p) None → ⊥
 not-outside p e = let z : ◌≡◌ {A = ℕ} 0 1 = cc in omega arith
 
-pub same_at : (p k : ℕ) → ◌≡◌ {A = Place} (At p) (At k) → p ≡ k
+pub same_at : (p k : ℕ) → ◌≡◌ {A = Option ℕ} (Some p) (Some k) → p ≡ k
 same_at p k e = cc
 
-pub place-below : (v : ℕ) (x y : ℤ) (p : ℕ) → position_at v x y ≡ At p → p < positions_of v
-unfolding position_at pick_place
+pub place-below : (v : ℕ) (x y : ℤ) (p : ℕ) → position_at v x y ≡ Some p → p < positions_of v
+unfolding position_at
 place-below v x y p e =
     go (leb 2 (shell_of (side_of v) x y) && leb (shell_of (side_of v) x y) 3)
     (on_edge (quarter_of v) (edge_of (side_of v) x y) (min (along_of (offset_of (side_of v) x y)) (quarter_of v))) e
   where
-    go : (t : Bool) (k : ℕ) → pick_place t (At (k % positions_of v)) Outside ≡ At p → p < positions_of v
+    go : (t : Bool) (k : ℕ) → cond t (Some (k % positions_of v)) None ≡ Some p → p < positions_of v
     go true k e =
         let z : k % positions_of v ≡ p = same_at (k % positions_of v) p e in omega
         (arith, mod-lt k {m = positions_of v} (omega arith))
@@ -45,16 +44,16 @@ place-below v x y p e =
 
 -- the outer cell of p is p's
 pub outer-place : (v p x y : ℕ) → p < positions_of v → x ≡ outer_x (quarter_of v) p → y ≡ outer_y (quarter_of v) p
-    → position_at v (coordinate x) (coordinate y) ≡ At p
+    → position_at v (coordinate x) (coordinate y) ≡ Some p
 outer-place v p x y h ex ey =
     ap (λ (k : ℕ). position_at v (coordinate k) (coordinate y)) ex
     ∙ ap (λ (k : ℕ). position_at v (coordinate (outer_x (quarter_of v) p)) (coordinate k)) ey ∙ plain
   where
-    plain : position_at v (coordinate (outer_x (quarter_of v) p)) (coordinate (outer_y (quarter_of v) p)) ≡ At p
+    plain : position_at v (coordinate (outer_x (quarter_of v) p)) (coordinate (outer_y (quarter_of v) p)) ≡ Some p
     plain =
         unfold outer_cell in
         (subst
-        (λ (k : ℕ). position_at v (coordinate (outer_x (quarter_of v) k)) (coordinate (outer_y (quarter_of v) k)) ≡ At p)
+        (λ (k : ℕ). position_at v (coordinate (outer_x (quarter_of v) k)) (coordinate (outer_y (quarter_of v) k)) ≡ Some p)
         (mod-eq_of_lt h) (position-outer v p h))
 
 -- ---- cells that carry a mark
@@ -102,11 +101,11 @@ carries-which q p x y e =
 
 -- ---- the square in the request's words
 
-square-at : (v p x y : ℕ) → position_at v (coordinate x) (coordinate y) ≡ At p → carries (quarter_of v) p x y ≡ true
+square-at : (v p x y : ℕ) → position_at v (coordinate x) (coordinate y) ≡ Some p → carries (quarter_of v) p x y ≡ true
     → ring_square v x y ≡ grey_of (mark v p)
 unfolding ring_square grey_at
 square-at v p x y e c =
-    ap (λ (z : Place). grey_at v x y z) e ∙ ap (λ (t : Bool). cond t (grey_of (mark v p)) 255) c
+    ap (λ (z : Option ℕ). grey_at v x y z) e ∙ ap (λ (t : Bool). cond t (grey_of (mark v p)) 255) c
 
 -- the places of a position's cells, and the cells at these places
 module _ (v p x y : ℕ) (h : p < positions_of v) where
@@ -163,13 +162,13 @@ pub square-rest : (v x y : ℕ) → ((p : ℕ) → p < positions_of v → IsOute
 unfolding ring_square grey_at
 square-rest v x y no_outer no_inner = go (position_at v (coordinate x) (coordinate y)) refl
   where
-    none : (p : ℕ) → position_at v (coordinate x) (coordinate y) ≡ At p → carries (quarter_of v) p x y ≡ true → ⊥
+    none : (p : ℕ) → position_at v (coordinate x) (coordinate y) ≡ Some p → carries (quarter_of v) p x y ≡ true → ⊥
     none p e c =
         let h = place-below v (coordinate x) (coordinate y) p e in
         ⊎_elim (λ a. no_outer p h (record { is = outer-at v p x y h a.0 a.1 }))
         (λ b. no_inner p h (record { is = inner-at v p x y h b.across b.down; reference = b.deep; back = e }))
         (carries-which (quarter_of v) p x y c)
 
-    go : (z : Place) → position_at v (coordinate x) (coordinate y) ≡ z → grey_at v x y z ≡ 255
-    go Outside e = refl
-    go (At p) e = ap (λ (t : Bool). cond t (grey_of (mark v p)) 255) (falsely (carries (quarter_of v) p x y) (none p e))
+    go : (z : Option ℕ) → position_at v (coordinate x) (coordinate y) ≡ z → grey_at v x y z ≡ 255
+    go None e = refl
+    go (Some p) e = ap (λ (t : Bool). cond t (grey_of (mark v p)) 255) (falsely (carries (quarter_of v) p x y) (none p e))

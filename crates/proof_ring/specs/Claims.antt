@@ -1,20 +1,18 @@
 -- Theorems on proof rings, in the words of the request on drawing a proof ring: statements only, for every version. Assumes nothing.
-use Rattle.std.specs.Prelude.{◌≡◌, Bool, true, false, List, ℕ, ◌+◌, ◌*◌, ◌≤◌, ◌<◌}
+use Rattle.std.specs.Prelude.{◌≡◌, Bool, true, false, List, ℕ, ◌+◌, ◌*◌, ◌≤◌, ◌<◌, Some}
 use Rattle.std.specs.Float.{binary32}
 use Rattle.std.specs.Float.Ieee.{of_bits}
 use Rattle.laws.specs.Plane.{drawn}
 use Rattle.lcr_core.specs.Border.{cell_at, coordinate, inner_cell, is_two_deep, outer_cell, outer_x, outer_y, position_at}
 use Rattle.lcr_core.specs.Mark.{mark}
 use Rattle.lcr_core.specs.Version.{IsVersion, positions_of, quarter_of}
-use Rattle.lcr_core.specs.declared.border.Place.TheVariants.{At}
 use Rattle.marks.specs.Classify.{marks_of}
 use Rattle.marks.specs.Doors.{correlate_answer}
-use Rattle.marks.specs.Pose.{agreement, pose_at}
-use Rattle.marks.specs.declared.correlate.Best.TheVariants.{Pose}
+use Rattle.marks.specs.Pose.{agreement, counts_of, pose_at}
 use Rattle.proof_ring.specs.Doors.{draw_answer}
 use Rattle.proof_ring.specs.Picture.{grey_of, posed, ring_pixel, ring_square, square_side}
 use Rattle.proof_ring.specs.Reading.{marks_read}
-use Rattle.proof_ring.specs.declared.Answer.TheVariants.{Done}
+use Rattle.laws.specs.Said.{give}
 
 -- The cell at places x and y is the outer cell of position p
 pub record IsOuter (v p x y : ℕ) : Type 0 where
@@ -24,7 +22,7 @@ pub record IsOuter (v p x y : ℕ) : Type 0 where
 pub record IsOwnInner (v p x y : ℕ) : Type 0 where
   pub is : cell_at x y ≡ inner_cell v p
   pub reference : is_two_deep p ≡ true
-  pub back : position_at v (coordinate x) (coordinate y) ≡ At p
+  pub back : position_at v (coordinate x) (coordinate y) ≡ Some p
 
 -- A column or row of pixels is one of the cell at place k, two cells from the edge
 pub record InCell (pitch k x : ℕ) : Type 0 where
@@ -85,9 +83,13 @@ pub record ReadBackAt (v pitch r : ℕ) (reversed : Bool) (old : List ℕ) (w h 
   -- at no other pose do all agree
   pub other : (s : ℕ) (b : Bool) → s < 4 → (SamePose s r b reversed → ⊥)
       → agreement v (marks_back v pitch r reversed old w h) s b < positions_of v
-  -- so that `correlate` answers the drawn pose, with a score of 1
-  pub best : correlate_answer v (marks_back v pitch r reversed old w h) ≡ Pose (of_bits binary32 1065353216) r reversed
+  -- so that `correlate` answers the drawn pose, with a score of 1, and the counts
+  pub best : correlate_answer v (marks_back v pitch r reversed old w h)
+      ≡ give (record {
+        best = record { score = of_bits binary32 1065353216; corner = r; reversed = reversed };
+        counts = counts_of v (marks_back v pitch r reversed old w h);
+      })
 
 pub record ReadBack : Type 0 where
-  pub all : (v pitch r : ℕ) (reversed : Bool) (old : List ℕ) (w h : ℕ) → draw_answer v pitch r old w h ≡ Done
+  pub all : (v pitch r : ℕ) (reversed : Bool) (old : List ℕ) (w h : ℕ) → draw_answer v pitch r old w h ≡ give tt
       → ReadBackAt v pitch r reversed old w h

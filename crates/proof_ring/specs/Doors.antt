@@ -6,12 +6,10 @@ use Rattle.std.specs.Prelude.{Bool, ◌&&◌, List, ℕ, zero, suc, ◌+◌, ◌
 use Rattle.picture_checks.specs.Picture.{check_picture}
 use Rattle.laws.specs.Check.{or_refuse}
 use Rattle.laws.specs.Plane.{drawn}
-use Rattle.laws.specs.Said.{Said, give, refuse}
+use Rattle.laws.specs.Said.{Said, give, none, refuse}
 use Rattle.lcr_core.specs.Version.{is_version, positions_of, side_of}
 use Rattle.proof_ring.specs.Picture.{ring_pixel}
 use Rattle.proof_ring.specs.Reading.{marks_read}
-use Rattle.proof_ring.specs.declared.Answer.{Answer}
-use Rattle.proof_ring.specs.declared.Answer.TheVariants.{Done, Refused}
 
 -- The least side of a picture, in pixels: the square with two cells before and after it
 abbrev pub least_side : ℕ → ℕ → ℕ
@@ -39,33 +37,30 @@ check_reading v pitch w h bytes marks =
     (or_refuse (eqb marks (positions_of v)) 11
     0)))
 
--- The number of the first check that fails, as an answer
-abbrev pub answer_of : ℕ → Answer
-answer_of zero = Done
-answer_of (suc n) = Refused (suc n)
+-- The number of the first check that fails, as an answer: that the picture is drawn, or that the marks are written, is all that it gives
+abbrev pub answer_of : ℕ → Said (Unit {0})
+answer_of zero = give tt
+answer_of (suc n) = refuse (suc n)
 
 -- What a drawing answers
-abbrev pub draw_answer : ℕ → ℕ → ℕ → List ℕ → ℕ → ℕ → Answer
+abbrev pub draw_answer : ℕ → ℕ → ℕ → List ℕ → ℕ → ℕ → Said (Unit {0})
 draw_answer v pitch r old w h = answer_of (check_drawing v pitch r w h (length old))
 
 -- The lent picture after it: every pixel drawn, or as before on refusal
-abbrev pub pixels_after : Answer → ℕ → ℕ → ℕ → Bool → List ℕ → ℕ → ℕ → List ℕ
-pixels_after Done v pitch r reversed old w h = drawn w h (ring_pixel v pitch r reversed) old
-pixels_after (Refused n) v pitch r reversed old w h = old
+abbrev pub pixels_after : Said (Unit {0}) → ℕ → ℕ → ℕ → Bool → List ℕ → ℕ → ℕ → List ℕ
+pixels_after (give u) v pitch r reversed old w h = drawn w h (ring_pixel v pitch r reversed) old
+pixels_after none v pitch r reversed old w h = old
+pixels_after (refuse n) v pitch r reversed old w h = old
 
 -- What a reading answers
-abbrev pub read_answer : ℕ → ℕ → List ℕ → ℕ → ℕ → List Bool → Answer
+abbrev pub read_answer : ℕ → ℕ → List ℕ → ℕ → ℕ → List Bool → Said (Unit {0})
 read_answer v pitch s w h old = answer_of (check_reading v pitch w h (length s) (length old))
 
 -- The lent marks after it: every one written, or as before on refusal
-abbrev pub marks_after : Answer → ℕ → ℕ → List ℕ → ℕ → List Bool → List Bool
-marks_after Done v pitch s w old = marks_read v pitch s w
-marks_after (Refused n) v pitch s w old = old
-
--- What an answer says: that the picture is drawn, or that the marks are written; these are all that it gives
-abbrev pub answer_said : Answer → Said (Unit {0})
-answer_said Done = give tt
-answer_said (Refused n) = refuse n
+abbrev pub marks_after : Said (Unit {0}) → ℕ → ℕ → List ℕ → ℕ → List Bool → List Bool
+marks_after (give u) v pitch s w old = marks_read v pitch s w
+marks_after none v pitch s w old = old
+marks_after (refuse n) v pitch s w old = old
 
 -- What the checks of 16 tell where they pass
 pub record Planned (v pitch r w h : ℕ) : Type 0 where

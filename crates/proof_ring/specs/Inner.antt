@@ -1,12 +1,10 @@
 -- The steps of a drawing, for the contracts of the functions that make it: cells of the ring's square made dark one after the other, and
 -- lists of pixels that show such a square. Definitions only. Assumes nothing.
-use Rattle.std.specs.Prelude.{◌≡◌, Bool, true, false, ◌&&◌, cond, List, ℕ, zero, suc, ◌+◌, ◌*◌, ◌-◌, ◌<◌, ◌≤◌, leb, ltb, eqb, length}
+use Rattle.std.specs.Prelude.{◌≡◌, Bool, true, false, ◌&&◌, cond, List, ℕ, zero, suc, ◌+◌, ◌*◌, ◌-◌, ◌<◌, ◌≤◌, leb, ltb, eqb, length, Option, Some, None}
 use Rattle.laws.specs.Plane.{Plane, plane}
 use Rattle.lcr_core.specs.Border.{coordinate, inward, is_two_deep, outer_x, outer_y, position_at}
 use Rattle.lcr_core.specs.Mark.{mark}
 use Rattle.lcr_core.specs.Version.{IsVersion, quarter_of}
-use Rattle.lcr_core.specs.declared.border.Place.{Place}
-use Rattle.lcr_core.specs.declared.border.Place.TheVariants.{At, Outside}
 use Rattle.proof_ring.specs.Picture.{carries, framed, grey_of, is_cell, posed, square_side}
 use Rattle.proof_ring.specs.Doors.{least_side}
 use Rattle.proof_ring.specs.declared.cells.Spot.{Spot}
@@ -32,9 +30,9 @@ abbrev pub inner_spot : ℕ → ℕ → Spot
 inner_spot v p = record { x = inward (quarter_of v) (outer_x (quarter_of v) p); y = inward (quarter_of v) (outer_y (quarter_of v) p) }
 
 -- Whether a cell's position is p
-abbrev pub is_place_at : ℕ → Place → Bool
-is_place_at p (At k) = eqb k p
-is_place_at p Outside = false
+abbrev pub is_place_at : ℕ → Option ℕ → Bool
+is_place_at p (Some k) = eqb k p
+is_place_at p None = false
 
 -- Whether the inner cell of position p carries its mark
 unfoldable pub own_inner : ℕ → ℕ → Bool
@@ -60,9 +58,9 @@ dark_unless true v p g = g
 dark_unless false v p g = dark_at v p g
 
 -- The ring's square with the marks of the positions below k only
-unfoldable pub grey_below : ℕ → ℕ → ℕ → ℕ → Place → ℕ
-grey_below v k x y (At p) = cond (ltb p k && carries (quarter_of v) p x y) (grey_of (mark v p)) 255
-grey_below v k x y Outside = 255
+unfoldable pub grey_below : ℕ → ℕ → ℕ → ℕ → Option ℕ → ℕ
+grey_below v k x y (Some p) = cond (ltb p k && carries (quarter_of v) p x y) (grey_of (mark v p)) 255
+grey_below v k x y None = 255
 
 unfoldable pub square_below : ℕ → ℕ → Plane
 square_below v k x y = grey_below v k x y (position_at v (coordinate x) (coordinate y))
@@ -71,13 +69,13 @@ square_below v k x y = grey_below v k x y (position_at v (coordinate x) (coordin
 
 -- What a plan must be, and the room that the pixels need
 pub record Room (plan : Plan) (s : List ℕ) : Type 0 where
-  pub version : IsVersion plan.version.0
+  pub version : IsVersion plan.version
   pub pitch-low : 1 ≤ plan.pitch
   pub pitch-high : plan.pitch ≤ 16
   pub corner : plan.corner ≤ 3
-  pub wide : least_side plan.version.0 plan.pitch ≤ plan.width
+  pub wide : least_side plan.version plan.pitch ≤ plan.width
   pub width : plan.width ≤ 4096
-  pub rows : least_side plan.version.0 plan.pitch * plan.width ≤ length s
+  pub rows : least_side plan.version plan.pitch * plan.width ≤ length s
 
 -- A list of rows of w pixels with a plane drawn over: as long, and each place is the plane's
 pub record Painted (w : ℕ) (g : Plane) (old new : List ℕ) : Type 0 where
@@ -88,7 +86,7 @@ pub record Painted (w : ℕ) (g : Plane) (old new : List ℕ) : Type 0 where
 pub record Shows (plan : Plan) (g : Plane) (s : List ℕ) : Type 0 where
   pub at : (x y : ℕ) → x < plan.width → y * plan.width + x < length s
       → plane plan.width s x y
-      ≡ framed (square_side plan.version.0) plan.pitch (posed (square_side plan.version.0) plan.corner plan.reversed g) x y
+      ≡ framed (square_side plan.version) plan.pitch (posed (square_side plan.version) plan.corner plan.reversed g) x y
 
 -- Where the old list shows a square, the new one shows that square changed by f
 pub record Repaints (plan : Plan) (f : Plane → Plane) (old new : List ℕ) : Type 0 where

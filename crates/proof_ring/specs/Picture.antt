@@ -1,14 +1,12 @@
 -- The picture of a version's ring, as the request on drawing a proof ring has it. Cells of the ring's square are named by their places
 -- across and down, counted from its top left corner; the square has as many cells on a side as the symbol and six more. Definitions only.
 -- Assumes nothing.
-use Rattle.std.specs.Prelude.{Bool, true, false, ◌&&◌, ◌||◌, cond, ℕ, zero, suc, ◌+◌, ◌-◌, ◌/◌, leb, ltb, eqb}
+use Rattle.std.specs.Prelude.{Bool, true, false, ◌&&◌, ◌||◌, cond, ℕ, zero, suc, ◌+◌, ◌-◌, ◌/◌, leb, ltb, eqb, Option, Some, None}
 use Rattle.laws.specs.Move.{transpose, turn}
 use Rattle.laws.specs.Plane.{Plane}
 use Rattle.lcr_core.specs.Border.{coordinate, inward, is_two_deep, outer_x, outer_y, position_at}
 use Rattle.lcr_core.specs.Mark.{mark}
 use Rattle.lcr_core.specs.Version.{quarter_of, side_of}
-use Rattle.lcr_core.specs.declared.border.Place.{Place}
-use Rattle.lcr_core.specs.declared.border.Place.TheVariants.{At, Outside}
 
 -- Cells on a side of the ring's square: the outer cells' coordinates run from −3 to side + 2
 abbrev pub square_side : ℕ → ℕ
@@ -30,9 +28,9 @@ carries q p x y =
     || (is_two_deep p && is_cell (inward q (outer_x q p)) (inward q (outer_y q p)) x y)
 
 -- The grey of a cell that `position` maps to p: "but only where `position` maps that cell back to the same position"; "all else 255"
-unfoldable pub grey_at : ℕ → ℕ → ℕ → Place → ℕ
-grey_at v x y (At p) = cond (carries (quarter_of v) p x y) (grey_of (mark v p)) 255
-grey_at v x y Outside = 255
+unfoldable pub grey_at : ℕ → ℕ → ℕ → Option ℕ → ℕ
+grey_at v x y (Some p) = cond (carries (quarter_of v) p x y) (grey_of (mark v p)) 255
+grey_at v x y None = 255
 
 -- The ring's square in "the pose of corner 0, forwards"
 unfoldable pub ring_square : ℕ → Plane

@@ -9,63 +9,58 @@
 
 ghost use Rattle.std.specs.Prelude.{◌≡◌};
 ghost use Rattle.picture_checks.specs.Picture.{check_picture, Sides};
-ghost use Rattle.lcr_core.specs.Version.{IsVersion};
 ghost use Rattle.proof_ring.specs.Doors.{check_plan, Planned, draw_answer, pixels_after, read_answer, marks_after};
+ghost use Rattle.refusal.specs.Numbers.{number_in, said};
 
 use crate::paint::{Plan, draw};
 use crate::read::read_marks;
-use lcr_core::version::{Version, VersionAnswer};
+use lcr_core::version::Version;
 use picture_checks::check_picture;
+use refusal::Refusal;
 
 pub mod cells;
 pub mod claims;
 pub mod paint;
 pub mod read;
 
-// What a door answers.
-#[derive(Drop)]
-pub enum Answer {
-    // the lent picture is drawn, or the lent marks are written
-    Done,
-    // the number of the first check that fails
-    Refused(u32),
-}
-
-// The checks of pitch, corner and sides: 16, else 0.
-fn check_plan(version: Version, pitch: u32, corner: u32, w: usize, h: usize) -> u32
-    requires { IsVersion version.0 }
-    ensures answer { result ≡ check_plan version.0 pitch corner w h 0 }
-    ensures passed { result ≡ 0 → Planned version.0 pitch corner w h }
+// The checks of pitch, corner and sides: 16 where one fails.
+fn check_plan(version: Version, pitch: u32, corner: u32, w: usize, h: usize) -> Result<(), Refusal>
+    ensures answer { number_in result ≡ check_plan version pitch corner w h 0 }
+    ensures passed { number_in result ≡ 0 → Planned version pitch corner w h }
 {
     if pitch < 1 {
-        return 16;
+        return Err(Refusal::Plate);
     }
     if 16 < pitch {
-        return 16;
+        return Err(Refusal::Plate);
     }
     if 3 < corner {
-        return 16;
+        return Err(Refusal::Plate);
     }
     let least = (version.side() as usize + 10) * pitch as usize;
     if w < least {
-        return 16;
+        return Err(Refusal::Plate);
     }
     if h < least {
-        return 16;
+        return Err(Refusal::Plate);
     }
-    0
+    Ok(())
 }
 
 // The checks of a picture, then those of pitch, corner and sides.
-fn check(version: Version, pitch: u32, corner: u32, w: usize, h: usize, bytes: usize) -> u32
-    requires { IsVersion version.0 }
-    ensures answer { result ≡ check_picture w h bytes (check_plan version.0 pitch corner w h 0) }
-    ensures passed { result ≡ 0 → Sides w h bytes × Planned version.0 pitch corner w h }
+fn check(
+    version: Version,
+    pitch: u32,
+    corner: u32,
+    w: usize,
+    h: usize,
+    bytes: usize,
+) -> Result<(), Refusal>
+    ensures answer { number_in result
+        ≡ check_picture w h bytes (check_plan version pitch corner w h 0) }
+    ensures passed { number_in result ≡ 0 → Sides w h bytes × Planned version pitch corner w h }
 {
-    let no = check_picture(w, h, bytes);
-    if no != 0 {
-        return no;
-    }
+    check_picture(w, h, bytes)?;
     check_plan(version, pitch, corner, w, h)
 }
 
@@ -79,21 +74,16 @@ pub fn draw_ring(
     pixels: &mut [u8],
     w: usize,
     h: usize,
-) -> Answer
-    ensures answer { result ≡ draw_answer version pitch corner pixels.old w h }
+) -> Result<(), Refusal>
+    ensures answer { said result ≡ draw_answer version pitch corner pixels.old w h }
     ensures pixels { pixels.new
-        ≡ pixels_after result version pitch corner reversed pixels.old w h }
+        ≡ pixels_after (said result) version pitch corner reversed pixels.old w h }
 {
-    let VersionAnswer::Known(v) = Version::new(version) else {
-        return Answer::Refused(8);
-    };
-    let no = check(v, pitch, corner, w, h, pixels.len());
-    if no != 0 {
-        return Answer::Refused(no);
-    }
+    let v = Version::new(version)?;
+    check(v, pitch, corner, w, h, pixels.len())?;
     draw(
         pixels,
-        Plan {
+        &Plan {
             version: v,
             pitch: pitch as usize,
             corner: corner as usize,
@@ -101,7 +91,7 @@ pub fn draw_ring(
             width: w,
         },
     );
-    Answer::Done
+    Ok(())
 }
 
 // Reads the marks of a version's ring at a pitch, at corner 0, forwards, from the centres of its
@@ -113,21 +103,16 @@ pub fn read_ring(
     w: usize,
     h: usize,
     marks: &mut [bool],
-) -> Answer
-    ensures answer { result ≡ read_answer version pitch pixels.now w h marks.old }
+) -> Result<(), Refusal>
+    ensures answer { said result ≡ read_answer version pitch pixels.now w h marks.old }
     ensures marks { marks.new
-        ≡ marks_after result version pitch pixels.now w marks.old }
+        ≡ marks_after (said result) version pitch pixels.now w marks.old }
 {
-    let VersionAnswer::Known(v) = Version::new(version) else {
-        return Answer::Refused(8);
-    };
-    let no = check(v, pitch, 0, w, h, pixels.len());
-    if no != 0 {
-        return Answer::Refused(no);
+    let v = Version::new(version)?;
+    check(v, pitch, 0, w, h, pixels.len())?;
+    if marks.len() != v.positions() {
+        return Err(Refusal::Marks);
     }
-    if marks.len() == v.positions() {
-        read_marks(v, pitch as usize, pixels, w, marks);
-        return Answer::Done;
-    }
-    Answer::Refused(11)
+    read_marks(v, pitch as usize, pixels, w, marks);
+    Ok(())
 }

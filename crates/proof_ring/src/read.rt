@@ -1,6 +1,6 @@
 // Marks read back from a picture of a ring.
 ghost use Rattle.std.specs.Prelude.{◌≡◌, ◌<◌, ◌≤◌, ◌*◌, length};
-ghost use Rattle.lcr_core.specs.Version.{IsVersion, positions_of};
+ghost use Rattle.lcr_core.specs.Version.{positions_of};
 ghost use Rattle.proof_ring.specs.Doors.{least_side};
 ghost use Rattle.proof_ring.specs.Reading.{centre, light_read, marks_read};
 
@@ -17,12 +17,11 @@ fn centre(pitch: usize, k: usize) -> usize
 
 // Whether the centre of a position's outer cell is light.
 fn light_at(version: Version, pitch: usize, pixels: &[u8], w: usize, p: usize) -> bool
-    requires version { IsVersion version.0 }
     requires le_pitch { (1 ≤ pitch) × (pitch ≤ 16) × (w ≤ 4096) }
-    requires pitch_bound { least_side version.0 pitch ≤ w }
-    requires w_in_bounds { least_side version.0 pitch * w ≤ length pixels.now }
-    requires p_bound { p < positions_of version.0 }
-    ensures { result ≡ light_read version.0 pitch pixels.now w p }
+    requires pitch_bound { least_side version pitch ≤ w }
+    requires w_in_bounds { least_side version pitch * w ≤ length pixels.now }
+    requires p_bound { p < positions_of version }
+    ensures { result ≡ light_read version pitch pixels.now w p }
 {
     let s = outer_spot(p, version);
     let x = centre(pitch, s.x);
@@ -38,17 +37,14 @@ pub(crate) fn read_marks(
     w: usize,
     marks: &mut [bool],
 )
-    requires version { IsVersion version.0 }
     requires le_pitch { (1 ≤ pitch) × (pitch ≤ 16) × (w ≤ 4096) }
-    requires pitch_bound { least_side version.0 pitch ≤ w }
-    requires w_in_bounds { least_side version.0 pitch * w ≤ length pixels.now }
-    requires marks_len { length marks.old ≡ positions_of version.0 }
-    ensures { marks.new ≡ marks_read version.0 pitch pixels.now w }
+    requires pitch_bound { least_side version pitch ≤ w }
+    requires w_in_bounds { least_side version pitch * w ≤ length pixels.now }
+    requires marks_len { length marks.old ≡ positions_of version }
+    ensures { marks.new ≡ marks_read version pitch pixels.now w }
 {
     let n = version.positions();
-    let mut p: usize = 0;
-    while p < n {
+    for p in 0..n {
         marks[p] = light_at(version, pitch, pixels, w, p);
-        p += 1;
     }
 }

@@ -4,7 +4,8 @@
 --     kept regions: count-four, listed, kept-boxed
 --     the outline door: points-few, never-refused, points-room, points-part, points-past
 -- Assumes nothing.
-use mathlib.Core.Path.{◌≡◌, refl, sym, ap, ◌∙◌}
+use mathlib.Core.Path.{◌≡◌, refl, sym, ap, ◌∙◌, subst}
+use Rattle.std.specs.Result.{IsOk}
 use mathlib.Core.List.{List}
 use Prim.Native.Nat.{ℕ, zero, suc, ◌+◌, ◌-◌, ◌*◌, ◌≤◌, ◌<◌}
 use native.Mathlib.Nat.{mul_comm}
@@ -31,9 +32,11 @@ use Rattle.hull.specs.Points.{floats_of}
 use Rattle.boundary.specs.Boundary.{member_at, is_member}
 use Rattle.boundary.proofs.Boundary.{Within, boundary-same}
 use Rattle.boundary.proofs.Members.{member-lists}
-use Rattle.outline.specs.Door.{check_outline, door_points, outline_by, list_after}
-use Rattle.outline.specs.declared.Answer.{Answer}
-use Rattle.outline.specs.declared.Answer.TheVariants.{Points, Refused}
+use Rattle.outline.specs.Door.{check_outline, door_points, list_after}
+use Rattle.std.proofs.Common.{Result, Ok}
+use Rattle.refusal.specs.Numbers.{said, answered}
+use Rattle.refusal.specs.declared.Refusal.{Refusal}
+use Rattle.refusal.proofs.Numbers.{said-give}
 use Rattle.outline.proofs.Doors.{points-le}
 use Rattle.region_outline.specs.Region.{region_points, need_of, Gridded, Boxed}
 
@@ -73,17 +76,6 @@ module _ (p : Plane) (w h : ℕ) where
       let b = kept-inside p w h a i l in record { across = b.0; down = b.1; right = b.2; bottom = b.3 }
 
 -- ---- the outline door
-tag_of : Answer → ℕ
-tag_of (Points n) = 0
-tag_of (Refused k) = 1
-
-count_of : Answer → ℕ
-count_of (Points n) = n
-count_of (Refused k) = 0
-
-one_or_zero : ◌≡◌ {A = ℕ} 0 1 → ⊥
-one_or_zero e = omega arith
-
 laid-points : (L : List (ℕ × ℕ)) (old : List Float) → list_after 0 L old ≡ laid (floats_of L) old
 unfolding list_after
 laid-points L old = refl
@@ -138,22 +130,21 @@ module _ (s : List ℕ) (w h : ℕ) (t : Sides w h (length s)) (r : Region) (g :
             unfold member_at in
             member-lists p w h r.label (plane (cells w) levels) (plane (cells8 w) labels) m.levels_are m.labels_are x y lx ly
 
-    module _ (answer : Answer) (e : answer ≡ outline_by number (length listed-points)) where
-      answer-is : answer ≡ Points (length points)
+    module _ (answer : Result ℕ Refusal) (e : said answer ≡ answered number (length listed-points)) where
+      answer-is : answer ≡ Ok (length points)
       answer-is =
-          e ∙ ap (λ (k : ℕ). outline_by k (length listed-points)) outline-passes ∙ ap (λ (l : List (ℕ × ℕ)). outline_by 0 (length l))
+          said-give answer (length points)
+          (e ∙ ap (λ (k : ℕ). answered k (length listed-points)) outline-passes ∙ ap (λ (l : List (ℕ × ℕ)). answered 0 (length l))
           door-points
-          ∙ unfold outline_by in refl
+          ∙ unfold answered in refl)
 
-      pub never-refused : (k : ℕ) → answer ≡ Refused k → ⊥
-      unfolding tag_of
-      never-refused k z = one_or_zero (sym (ap tag_of answer-is) ∙ ap tag_of z)
+      pub never-refused : IsOk answer
+      never-refused = subst IsOk (sym answer-is) refl
 
-      points-many : (n : ℕ) → answer ≡ Points n → n ≡ length points
-      unfolding count_of
-      points-many n z = sym (ap count_of z) ∙ ap count_of answer-is
+      points-many : (n : ℕ) → answer ≡ Ok n → n ≡ length points
+      points-many n z = let a = answer-is in cc
 
-      pub points-room : (n : ℕ) → answer ≡ Points n → 2 * n ≤ need_of w h
+      pub points-room : (n : ℕ) → answer ≡ Ok n → 2 * n ≤ need_of w h
       points-room n z = omega (arith, points-few, points-many n z)
 
       -- the list holds them, and keeps the rest
@@ -163,7 +154,7 @@ module _ (s : List ℕ) (w h : ℕ) (t : Sides w h (length s)) (r : Region) (g :
             f ∙ ap (λ (q : ℕ). list_after q listed-points old) outline-passes ∙ ap (λ (l : List (ℕ × ℕ)). list_after 0 l old) door-points
             ∙ laid-points points old
 
-        pub points-part : (n : ℕ) → answer ≡ Points n → take (2 * n) last ≡ floats_of points
+        pub points-part : (n : ℕ) → answer ≡ Ok n → take (2 * n) last ≡ floats_of points
         points-part n z =
             let k : length (floats_of points) ≡ 2 * n = omega (arith, length-floats points, points-many n z) in
             ap (λ (l : List Float). take (2 * n) l) list-is

@@ -8,7 +8,6 @@ ghost use Rattle.picture_checks.specs.Picture.{Sides};
 ghost use Rattle.hull.specs.Points.{floats_of};
 ghost use Rattle.region_outline.specs.Region.{region_points, need_of, Gridded, Boxed};
 
-use outline::Answer;
 use regions::answer::Region;
 
 // The points of a region, as the first numbers of the list; how many there are.
@@ -34,9 +33,5 @@ pub fn region_points(
     let y0 = r.y0 as usize;
     let x1 = r.x1 as usize;
     let y1 = r.y1 as usize;
-    let a = outline::outline(s, levels, labels, r.label, w, h, x0, y0, x1, y1, list);
-    let Answer::Points(n) = a else {
-        return 0;
-    };
-    n
+    outline::outline(s, levels, labels, r.label, w, h, x0, y0, x1, y1, list).unwrap()
 }

@@ -1,5 +1,5 @@
 -- The loop that lists the kept regions (Listing), and the answer by a list of labels as the answer of a picture.
---     Listing, listing-begin, listing-turn, listing-end
+--     Listing, listing-turn, listing-end
 --     the labels of a picture in a list: regions-listed
 -- Assumes nothing.
 use mathlib.Core.Bool.{Bool}
@@ -31,18 +31,6 @@ pub record Listing (labels : List ℕ) (m cw ch w h i : ℕ) (list : List Region
   pub many : length list ≡ 4
   pub done : (j : ℕ) → j < i → get_or list j no_region ≡ region_in labels cw ch w h (kept_at (size_in labels) m j)
   pub rest : (j : ℕ) → i ≤ j → get_or list j no_region ≡ no_region
-
-pub listing-begin : (labels : List ℕ) (m cw ch w h : ℕ)
-    → Listing labels m cw ch w h 0
-    (no_region ∷ no_region ∷ no_region ∷ no_region ∷ [])
-listing-begin labels m cw ch w h = record { many = refl; done = λ j b. absurd (omega arith); rest = λ j b. at j }
-  where
-    at : (j : ℕ) → get_or {A = Region} (no_region ∷ no_region ∷ no_region ∷ no_region ∷ []) j no_region ≡ no_region
-    at zero = refl
-    at (suc zero) = refl
-    at (suc (suc zero)) = refl
-    at (suc (suc (suc zero))) = refl
-    at (suc (suc (suc (suc j)))) = refl
 
 pub listing-turn : {labels : List ℕ} {m cw ch w h i : ℕ} {list : List Region} {r : Region} → Listing labels m cw ch w h i list → i < 4
     → r ≡ region_in labels cw ch w h (kept_at (size_in labels) m i) → Listing labels m cw ch w h (i + 1) (set list i r)

@@ -1,5 +1,5 @@
 -- The search for the groups that are kept: the first behind another (UpTo), and one after the other (Picking).
---     UpTo, upto-begin, upto_turn, Picking, picking-begin, picking-turn, picking-out, picking_full, picked-out, picked-full
+--     UpTo, upto_turn, Picking, picking-turn, picking-out, picking_full, picked-out, picked-full
 -- Assumes nothing.
 use mathlib.Core.Bool.{false, true}
 use mathlib.Core.List.{List}
@@ -26,9 +26,6 @@ pub record UpTo (s : List ℕ) (p k a : ℕ) : Type 0 where
   pub most : a ≤ length s
   pub real : a < length s → (want (value_at s) a ≡ true) × (behind s p a ≡ true)
   pub all : (c : ℕ) → c < k → want (value_at s) c ≡ true → behind s p c ≡ true → (a < length s) × (ahead (value_at s) c a ≡ false)
-
-pub upto-begin : (s : List ℕ) (p : ℕ) → UpTo s p 0 (length s)
-upto-begin s p = record { most = omega arith; real = λ h. absurd (omega arith); all = λ c h. absurd (omega arith) }
 
 beats-yes : (s : List ℕ) (a b : ℕ) → beats s a b ≡ true → a < length s → ahead (value_at s) b a ≡ true
 unfolding beats
@@ -99,10 +96,6 @@ found-place s i p a at k f h = go (ℕ_discrete i 0)
           meets = sym (behind-real s p a l.0) ∙ (f.real h).1;
           first = λ b d w q. (f.all b d w (behind-real s p b l.0 ∙ q)).1;
         }) ∙ l.2
-
-pub picking-begin : (s at : List ℕ) → Picking s 0 (length s) at
-picking-begin s at =
-    record { done = λ j h. absurd (omega arith); inside = λ j h. absurd (omega arith); start = λ e. refl; last = λ h. absurd (omega arith) }
 
 pub picking-turn : {s at at' : List ℕ} {i p a : ℕ} → Picking s i p at → FoundBehind s p a → a < length s
     → ((j : ℕ) → j < i → get_or at' j 0 ≡ get_or at j 0) → get_or at' i 0 ≡ a → Picking s (i + 1) a at'

@@ -6,16 +6,15 @@ use mathlib.Core.List.{List}
 use mathlib.Core.Logic.{◌⊎◌, inl, inr}
 use mathlib.Core.Path.{◌≡◌, refl}
 use Prim.Native.Nat.{◌*◌, ◌+◌, ◌<◌, ◌≤◌, min, suc, ℕ}
-use native.Mathlib.Nat.{div-lt_iff_lt-mul, mod-lt, mul_comm}
+use native.Mathlib.Nat.{div-lt_iff_lt-mul, mod-lt}
 use native.Mathlib.Omega.{arith}
 use lib.Dec.{eqb}
 use lib.ListN.{get_or, length}
 use Rattle.laws.proofs.Bools.{which}
-use Rattle.laws.proofs.Planes.{counted-row, next_row, place-col, place-row, zero-place}
-use Rattle.levels.specs.Level.{cells}
+use Rattle.laws.proofs.Planes.{next_row, place-col, place-row, zero-place}
 use Rattle.regions.proofs.Boxes.{highest-le, highest-no, highest-yes, lowest-le, lowest-no, lowest-yes}
 use Rattle.regions.specs.Boxes.{highest, lowest}
-use Rattle.regions.specs.Inner.{LabelBoxed, Cells, Grown, BoxSmall, cell_column, has, region_in, cell_row, size_in}
+use Rattle.regions.specs.Inner.{LabelBoxed, Grown, BoxSmall, cell_column, has, region_in, cell_row, size_in}
 
 module _ (labels : List ℕ) (l w h : ℕ) where
   boxed-begin : LabelBoxed labels l w h 0 w h 0 0
@@ -65,10 +64,6 @@ pub spanning-begin : (labels : List ℕ) (l w h : ℕ) → 0 < w → Spanning la
 spanning-begin labels l w h some = record { upto = omega arith; boxed = boxed-begin labels l w h; place = zero-place w; column = some }
 
 module _ {labels : List ℕ} {l w h k x y x₀ y₀ x₁ y₁ : ℕ} (s : Spanning labels l w h k x y x₀ y₀ x₁ y₁) (within : k < length labels) where
-  -- the row of a cell of the grid
-  pub spanning-row-lt : Cells labels w h → y < h
-  spanning-row-lt cells = counted-row k x y w h (rw (mul_comm w h) (omega (arith, cells.many))) s.place s.column
-
   module _ {x₀' y₀' x₁' y₁' : ℕ} (g : Grown (eqb (get_or labels k 0) l) x y x₀ y₀ x₁ y₁ x₀' y₀' x₁' y₁') where
     next-box : LabelBoxed labels l w h (k + 1) x₀' y₀' x₁' y₁'
     unfolding cell_column cell_row

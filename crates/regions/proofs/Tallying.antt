@@ -1,32 +1,17 @@
 -- The loop that counts the labels (Tallied). Assumes nothing.
 use mathlib.Core.List.{List}
-use mathlib.Core.Logic.{⊎_elim}
 use mathlib.Core.Path.{◌∙◌, ◌≡◌, ap, refl, sym}
-use Prim.Native.Nat.{◌+◌, ◌-◌, ◌<◌, ◌≤◌, suc, ℕ}
+use Prim.Native.Nat.{◌+◌, ◌<◌, ◌≤◌, suc, ℕ}
 use native.Mathlib.Decide.{ℕ_discrete}
 use native.Mathlib.Numerals.{add-one}
 use native.Mathlib.Omega.{arith}
 use lib.Dec.{eqb}
-use lib.ListN.{get_or, get_or-replicate, length, length-replicate, set}
+use lib.ListN.{get_or, get_or-replicate, length, length-replicate}
 use borrow.Author.Tests.{eq-eqb, ne_eqb}
 use Rattle.laws.proofs.Counts.{count_no, count_yes}
-use Rattle.laws.proofs.Writes.{at_set}
 use Rattle.laws.specs.Count.{count}
 use Rattle.laws.specs.Lent.{zeros}
 use Rattle.regions.specs.Inner.{Bumped, size_in}
-
-pub bumped_none : (l : List ℕ) (x : ℕ) → x ≡ 0 → Bumped x l l
-bumped_none l x e = record { yes = λ i h p. absurd (omega arith); no = λ i h p. refl }
-
-pub bumped-one : (l : List ℕ) (x : ℕ) → (x ≡ 0 → ⊥) → x ≤ length l → Bumped x l (set l (x - 1) (get_or l (x - 1) 0 + 1))
-bumped-one l x n b = record {
-  yes = λ i h p. ⊎_elim (λ q. q.1 ∙ (add-one (get_or l (x - 1) 0) ∙ ap (λ (j : ℕ). suc (get_or l j 0)) (sym q.0)))
-      (λ q. absurd (q.0 (omega arith))) (at_set l (x - 1) (get_or l (x - 1) 0 + 1) i (omega arith));
-  no = λ i h p. ⊎_elim (λ q. absurd (p (same i q.0))) (λ q. q.1) (at_set l (x - 1) (get_or l (x - 1) 0 + 1) i (omega arith));
-}
-  where
-    same : (i : ℕ) → i ≡ x - 1 → x ≡ suc i
-    same i e = omega arith
 
 pub record Tallied (labels l₀ l : List ℕ) (k : ℕ) : Type 0 where
   pub size : length l ≡ length l₀

@@ -42,7 +42,3 @@ kept_regions p w h = record {
   kept = kept_count p w h;
   list = region_at p w h 0 ∷ region_at p w h 1 ∷ region_at p w h 2 ∷ region_at p w h 3 ∷ [];
 }
-
--- No regions: what a refusal has beside its number.
-unfoldable pub no_regions : Kept
-no_regions = record { all = 0; kept = 0; list = no_region ∷ no_region ∷ no_region ∷ no_region ∷ [] }

@@ -2,7 +2,7 @@
 
 // A region: its label, how many region cells it has, and its box in pixels. The box has its left
 // and top pixels; right and bottom are one past the last, and at most the picture's sides.
-#[derive(Clone, Copy)]
+#[derive(Clone, Copy, Default)]
 pub struct Region {
     pub label: u32,
     pub cells: u32,
@@ -14,6 +14,7 @@ pub struct Region {
 
 // How many regions there are, how many of them are kept (at most 4), and those, largest first. The
 // places past these hold zeros.
+// Kept: how many, beside four places: lists lie in fixed memory (a rule of the project).
 #[derive(Clone, Copy)]
 pub struct Kept {
     pub all: usize,

@@ -6,9 +6,5 @@ ghost use Rattle.laws.specs.Lent.{zeros};
 pub fn clear(list: &mut [u32])
     ensures { list.new ≡ zeros list.old }
 {
-    let mut i = 0;
-    while i < list.len() {
-        list[i] = 0;
-        i += 1;
-    }
+    list.fill(0);
 }

@@ -5,18 +5,15 @@ ghost use Rattle.regions.specs.Kept.{ahead_by};
 ghost use Rattle.regions.specs.Inner.{behind, beats, Turn, FoundBehind, Picked};
 
 // Whether a group `a` of `x` cells comes before a group `b` of `y` cells.
+#[tactic(auto, unfolding(crate::specs::Kept::ahead_by))]
 fn ahead(x: u32, a: usize, y: u32, b: usize) -> bool
     ensures { result ≡ ahead_by x a y b }
 {
-    if y < x {
-        return true;
-    }
-    if x == y {
-        return a < b;
-    }
-    false
+    y < x || x == y && a < b
 }
 
+// Whether `b` is behind `p`, which all are where `p` is no group.
+#[tactic(auto, unfolding(crate::specs::Inner::behind, crate::specs::Kept::ahead))]
 fn is_behind(sizes: &[u32], p: usize, b: usize) -> bool
     requires { b < length sizes.now }
     ensures { result ≡ behind sizes.now p b }
@@ -27,6 +24,8 @@ fn is_behind(sizes: &[u32], p: usize, b: usize) -> bool
     true
 }
 
+// Whether `b` is ahead of `a`, as each is where `a` is no group.
+#[tactic(auto, unfolding(crate::specs::Inner::beats, crate::specs::Kept::ahead))]
 fn does_beat(sizes: &[u32], a: usize, b: usize) -> bool
     requires { b < length sizes.now }
     ensures { result ≡ beats sizes.now a b }
@@ -55,19 +54,19 @@ fn better(sizes: &[u32], p: usize, a: usize, b: usize) -> usize
 }
 
 // The first group that is kept behind `p`, and the number of groups where there is none.
+// Kept: that number stands for none; a place in an Option would ask a new `requires` of is_behind.
 fn first_behind(sizes: &[u32], p: usize) -> usize
     ensures { FoundBehind sizes.now p result }
 {
     let mut a = sizes.len();
-    let mut b = 0;
-    while b < sizes.len() {
+    for b in 0..sizes.len() {
         a = better(sizes, p, a, b);
-        b += 1;
     }
     a
 }
 
 // The groups that are kept, in order: how many, and which.
+// Kept: how many, beside four places: lists lie in fixed memory (a rule of the project).
 #[derive(Drop)]
 pub struct Picks {
     pub kept: usize,
@@ -79,15 +78,13 @@ pub(crate) fn pick(sizes: &[u32]) -> Picks
 {
     let mut at = [0usize; 4];
     let mut p = sizes.len();
-    let mut i = 0;
-    while i < 4 {
+    for i in 0..4 {
         let a = first_behind(sizes, p);
         if a == sizes.len() {
-            return Picks { kept: i, at: at };
+            return Picks { kept: i, at };
         }
         at[i] = a;
         p = a;
-        i += 1;
     }
-    Picks { kept: 4, at: at }
+    Picks { kept: 4, at }
 }

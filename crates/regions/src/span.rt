@@ -1,5 +1,5 @@
 // The box of a label, in cells.
-ghost use Rattle.std.specs.Prelude.{◌≡◌, ◌+◌, ◌<◌, min, max, length};
+ghost use Rattle.std.specs.Prelude.{◌+◌, ◌<◌, length};
 ghost use Rattle.regions.specs.Inner.{Cells, LabelBoxed, BoxSmall, Grown};
 
 // A box in cells: right and bottom are one past the last.
@@ -11,18 +11,6 @@ pub struct Span {
     pub y1: usize,
 }
 
-pub(crate) fn least(a: usize, b: usize) -> usize
-    ensures { result ≡ min a b }
-{
-    if a < b { a } else { b }
-}
-
-fn greatest(a: usize, b: usize) -> usize
-    ensures { result ≡ max a b }
-{
-    if a < b { b } else { a }
-}
-
 // The box with the cell at column `x` and row `y` in it, where `is` says so.
 fn grown(b: Span, is: bool, x: usize, y: usize) -> Span
     requires { (x < 262144) × (y < 262144) }
@@ -32,10 +20,10 @@ fn grown(b: Span, is: bool, x: usize, y: usize) -> Span
         return b;
     }
     Span {
-        x0: least(b.x0, x),
-        y0: least(b.y0, y),
-        x1: greatest(b.x1, x + 1),
-        y1: greatest(b.y1, y + 1),
+        x0: b.x0.min(x),
+        y0: b.y0.min(y),
+        x1: b.x1.max(x + 1),
+        y1: b.y1.max(y + 1),
     }
 }
 
@@ -52,12 +40,10 @@ pub(crate) fn span_of(labels: &[u32], l: u32, w: usize, h: usize) -> Span
         x1: 0,
         y1: 0,
     };
-    let mut c = 0;
     let mut x = 0;
     let mut y = 0;
-    while c < labels.len() {
-        b = grown(b, labels[c] == l, x, y);
-        c += 1;
+    for cell in labels {
+        b = grown(b, *cell == l, x, y);
         x += 1;
         if x == w {
             x = 0;

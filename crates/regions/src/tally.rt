@@ -12,7 +12,7 @@ fn bump(sizes: &mut [u32], x: u32)
 {
     if x != 0 {
         let i = (x - 1) as usize;
-        sizes[i] = sizes[i] + 1;
+        sizes[i] += 1;
     }
 }
 
@@ -24,9 +24,7 @@ pub(crate) fn tally(labels: &[u32], sizes: &mut [u32])
         → get_or sizes.new i 0 ≡ size_in labels.now i }
 {
     clear(sizes);
-    let mut c = 0;
-    while c < labels.len() {
-        bump(sizes, labels[c]);
-        c += 1;
+    for x in labels {
+        bump(sizes, *x);
     }
 }

@@ -4,7 +4,7 @@ ghost use Rattle.regions.specs.Inner.{Cells, size_in, region_in, kept_in};
 
 use crate::answer::{Kept, Region};
 use crate::pick::pick;
-use crate::span::{least, span_of};
+use crate::span::span_of;
 use crate::tally::tally;
 
 // The region of the label i + 1, of which `cells` is the number of cells, in a picture of `width`
@@ -29,11 +29,11 @@ fn region_of(
     let b = span_of(labels, l, w, h);
     let x0 = 8 * b.x0;
     let y0 = 8 * b.y0;
-    let x1 = least(8 * b.x1, width);
-    let y1 = least(8 * b.y1, height);
+    let x1 = (8 * b.x1).min(width);
+    let y1 = (8 * b.y1).min(height);
     Region {
         label: l,
-        cells: cells,
+        cells,
         x0: x0 as u32,
         y0: y0 as u32,
         x1: x1 as u32,
@@ -56,27 +56,17 @@ fn kept_regions(
     ensures { result ≡ kept_in labels.now (length sizes.now) w h width height }
 {
     let p = pick(sizes);
-    let none = Region {
-        label: 0,
-        cells: 0,
-        x0: 0,
-        y0: 0,
-        x1: 0,
-        y1: 0,
-    };
-    let mut list = [none; 4];
+    let mut list = [Region::default(); 4];
     let kept = p.kept;
     let at = p.at;
-    let mut i = 0;
-    while i < kept {
+    for i in 0..kept {
         let a = at[i];
         list[i] = region_of(labels, a, sizes[a], w, h, width, height);
-        i += 1;
     }
     Kept {
         all: sizes.len(),
-        kept: kept,
-        list: list,
+        kept,
+        list,
     }
 }
 

@@ -2,8 +2,6 @@
 // prints how many there were and how many answers differ.
 #![tactic(auto)]
 
-ghost use Rattle.std.specs.Prelude.{◌+◌, ◌≤◌, ◌<◌};
-
 use std::fs;
 use std::fs::File;
 
@@ -11,17 +9,6 @@ pub mod record;
 
 // The number of standard output.
 const STDOUT_FILENO: i32 = 1;
-
-// One more where an answer differs.
-fn counted(different: u64, seen: u32) -> u64
-    requires { different < 1000000 }
-    ensures { result ≤ different + 1 }
-{
-    if seen == record::DIFFERENT {
-        return different + 1;
-    }
-    different
-}
 
 // What was replayed of one file.
 fn print(calls: u64, different: u64) {
@@ -33,18 +20,17 @@ fn print(calls: u64, different: u64) {
 
 // Replays a file, at most a million calls of it.
 fn replay(file: &mut File) {
-    let mut calls: u64 = 0;
     let mut different: u64 = 0;
-    while calls < 1000000 {
-        let seen = record::next(file);
-        if seen == record::END {
+    for calls in 0..1000000 {
+        let Some(same) = record::next(file) else {
             print(calls, different);
             return;
+        };
+        if !same {
+            different += 1;
         }
-        different = counted(different, seen);
-        calls += 1;
     }
-    print(calls, different);
+    print(1000000, different);
 }
 
 // Replays the file of an area.

@@ -14,8 +14,7 @@ use Rattle.lcr_core.specs.Version.{side_of}
 use Rattle.hull.specs.Points.{many}
 use Rattle.hull.specs.Hull.{hull_of}
 use Rattle.hull.specs.declared.points.Quad.{Quad}
-use Rattle.hull.specs.declared.points.Corners.{Corners}
-use Rattle.hull.specs.declared.points.Corners.TheVariants.{Found, NoQuad}
+use Rattle.std.specs.Prelude.{Option, Some, None}
 use Rattle.fit.specs.F32.{3f}
 use Rattle.fit.specs.Corner.{refined_of, same_of}
 use Rattle.fit.specs.Consensus.{edge_quad}
@@ -82,18 +81,18 @@ module _ (gray : List ℕ) (w h most : ℕ) (top : most ≤ 64) where
   unfolding quad_trace trace_by
   quad-few q l hull = search-few gray w h (goal_of q l most) top
 
-  tried-few : (c : Corners) (r : Quad) (l : Lens) (hull : ℕ) → Few (both_quads gray w h c r l hull most)
+  tried-few : (c : Option Quad) (r : Quad) (l : Lens) (hull : ℕ) → Few (both_quads gray w h c r l hull most)
   unfolding both_quads
-  tried-few (Found e) r l hull =
+  tried-few (Some e) r l hull =
       cond-few (same_of e r 3f) (quad_trace gray w h r l hull most)
       (first_of (quad_trace gray w h e l hull most) (quad_trace gray w h r l hull most))
       (quad-few r l hull) (first-few _ _ (quad-few e l hull) (quad-few r l hull))
-  tried-few NoQuad r l hull = quad-few r l hull
+  tried-few None r l hull = quad-few r l hull
 
-  found-few : (s : List Float) (hull : ℕ) (c : Corners) (l : Lens) → Few (found_of gray w h s hull c l most)
+  found-few : (s : List Float) (hull : ℕ) (c : Option Quad) (l : Lens) → Few (found_of gray w h s hull c l most)
   unfolding found_of
-  found-few s hull (Found q) l = tried-few (edge_quad s q) (refined_of s q) l hull
-  found-few s hull NoQuad l = short-few hull
+  found-few s hull (Some q) l = tried-few (edge_quad s q) (refined_of s q) l hull
+  found-few s hull None l = short-few hull
 
   pub attempt-few : (s : List Float) → Few (attempt_of gray w h s most)
   unfolding attempt_of lens_trace

@@ -1,52 +1,31 @@
 -- The ring door's checks and its answer. Assumes nothing.
---   good-begin, good-step, good-stop, good-end   the coordinates' test by one number more
---   room_in, version-in                          what a check that passes tells
---   Passed, passed, passed-photo                 what an accepted call knows
---   given_is, refused-is                         the answer of an accepted call, and of a refused one
+--   room_in, version-by, version-in   what a check that passes tells
+--   Passed, passed, passed-photo      what an accepted call knows
+--   given_is, refused-is              the answer of an accepted call, and of a refused one
 use mathlib.Core.Path.{◌≡◌, refl, sym, ap, ◌∙◌}
-use mathlib.Core.Bool.{Bool, true, false, ◌&&◌}
+use mathlib.Core.Bool.{true, ◌&&◌}
 use mathlib.Core.List.{List}
-use Prim.Native.Nat.{ℕ, zero, suc, ◌+◌, ◌-◌, ◌*◌, ◌≤◌, ◌<◌}
-use native.Mathlib.Nat.{sub-zero}
+use Prim.Native.Nat.{ℕ, zero, suc, ◌*◌, ◌≤◌}
 use borrow.Author.Tests.{leb-true, eqb-true}
 use lib.Dec.{leb, eqb}
-use lib.ListN.{length, get_or}
-use lib.Ieee.{Float, nan}
+use lib.ListN.{length}
+use lib.Ieee.{Float}
 use Rattle.laws.proofs.Bools.{and_left, and_right}
-use Rattle.laws.proofs.Steps.{one_less, none_left}
 use Rattle.picture_checks.specs.Picture.{is_side}
 use Rattle.picture_checks.specs.Points.{is_points}
 use Rattle.picture_checks.proofs.Checked.{check-step, side-in, points-in}
-use Rattle.lcr_core.specs.Version.{is_version}
+use Rattle.lcr_core.specs.Version.{is_version, version_answer}
 use Rattle.search.specs.Samples.{Photo}
-use Rattle.ring.specs.Checks.{has_room, coordinate_of, coordinates_on, coordinates_of, check_ring}
-use Rattle.ring.specs.Trace.{short_trace, attempt_of}
+use Rattle.ring.specs.Checks.{has_room, coordinates_of, check_ring}
+use Rattle.ring.specs.Trace.{attempt_of}
 use Rattle.ring.specs.Door.{answer_by, answer_of}
 use Rattle.ring.specs.declared.quads.Trace.{Trace}
-use Rattle.ring.specs.declared.door.Outcome.TheVariants.{Given, Refused}
-
--- ---- the coordinates
-pub good-begin : (s : List Float) (n : ℕ) → coordinates_on s (n - 0) 0 ≡ coordinates_on s n 0
-good-begin s n = ap (λ (d : ℕ). coordinates_on s d 0) (sub-zero n)
-
-module _ (s : List Float) (n k : ℕ) (b z : Bool) (more : k < n) (is : b ≡ coordinate_of (get_or s k nan))
-    (q : coordinates_on s (n - k) k ≡ z) where
-  good-by : (t : Bool) → b ≡ t → (t && coordinates_on s (n - (k + 1)) (k + 1)) ≡ z
-  unfolding coordinates_on
-  good-by t h =
-      ap (λ (t : Bool). t && coordinates_on s (n - (k + 1)) (k + 1)) (sym h ∙ is)
-      ∙ sym (ap (λ (d : ℕ). coordinates_on s d k) (one_less n k more))
-      ∙ q
-
-  pub good-step : b ≡ true → coordinates_on s (n - (k + 1)) (k + 1) ≡ z
-  good-step h = good-by true h
-
-  pub good-stop : b ≡ false → false ≡ z
-  good-stop h = good-by false h
-
-pub good-end : (s : List Float) (n k : ℕ) (z : Bool) → n ≤ k → coordinates_on s (n - k) k ≡ z → true ≡ z
-unfolding coordinates_on
-good-end s n k z h q = sym (ap (λ (d : ℕ). coordinates_on s d k) (none_left n k h)) ∙ q
+use Rattle.std.specs.Prelude.{Result, Ok, Err, is_ok}
+use Rattle.laws.specs.Said.{refuse, give}
+use Rattle.refusal.specs.declared.Refusal.{Refusal}
+use Rattle.refusal.specs.Numbers.{number_of, said}
+use Rattle.refusal.proofs.Numbers.{number-none}
+use Rattle.lcr_core.proofs.DoorLaws.{version-known, version-refused}
 
 -- ---- what a check that passes tells
 pub room_in : (n a b c : ℕ) → has_room n a b c ≡ true → (n ≤ a) × (n ≤ b) × (n ≤ c)
@@ -56,6 +35,10 @@ room_in n a b c e =
       leb-true n b (and_left (leb n b) (leb n c) rest),
       leb-true n c (and_right (leb n b) (leb n c) rest),
     )
+
+pub version-by : (v : ℕ) (r : Result ℕ Refusal) → said r ≡ version_answer v → is_ok r ≡ is_version v
+version-by v (Ok w) e = sym (version-known v w (Ok w) e refl).0
+version-by v (Err x) e = sym (version-refused v x (Err x) e refl).0
 
 pub version-in : (v : ℕ) → is_version v ≡ true → v ≤ 64
 version-in v e = leb-true v 64 (and_right (leb 1 v) (leb v 64) e)
@@ -92,23 +75,17 @@ pub passed-photo : {w h n a b c most : ℕ} (gray : List ℕ) → Passed w h (le
 passed-photo gray p = record { wide = p.wide; high = p.high; bytes = p.whole }
 
 -- ---- the answer
-refused-by : (n : ℕ) (gray : List ℕ) (w h : ℕ) (s : List Float) (most : ℕ) → (n ≡ 0 → ⊥)
-    → record { outcome = Refused n; trace = short_trace 0 } ≡ answer_by n gray w h s most
-unfolding answer_by
-refused-by zero gray w h s most some = absurd (some refl)
-refused-by (suc n) gray w h s most some = refl
-
 module _ (gray : List ℕ) (w h : ℕ) (s : List Float) (most a b c : ℕ) where
   pub given_is : (t : Trace) → check_ring w h (length gray) s a b c most ≡ 0 → t ≡ attempt_of gray w h s most
-      → record { outcome = Given; trace = t } ≡ answer_of gray w h s most a b c
+      → give t ≡ answer_of gray w h s most a b c
   unfolding answer_of answer_by
-  given_is t z e =
-      ap (λ (t : Trace). record { outcome = Given; trace = t }) e ∙ sym (ap (λ (n : ℕ). answer_by n gray w h s most) z)
+  given_is t z e = ap (λ (t : Trace). give t) e ∙ sym (ap (λ (n : ℕ). answer_by n gray w h s most) z)
 
-  pub refused-is : (n : ℕ) (t : Trace) → n ≡ check_ring w h (length gray) s a b c most → (n ≡ 0 → ⊥) → t ≡ short_trace 0
-      → record { outcome = Refused n; trace = t } ≡ answer_of gray w h s most a b c
+  pub refused-is : (r : Refusal) → number_of r ≡ check_ring w h (length gray) s a b c most
+      → refuse (number_of r) ≡ answer_of gray w h s most a b c
   unfolding answer_of
-  refused-is n t en some e =
-      ap (λ (t : Trace). record { outcome = Refused n; trace = t }) e
-      ∙ refused-by n gray w h s most some
-      ∙ ap (λ (n : ℕ). answer_by n gray w h s most) en
+  refused-is r e = go (number_of r) refl ∙ ap (λ (n : ℕ). answer_by n gray w h s most) e
+    where
+      go : (n : ℕ) → number_of r ≡ n → refuse n ≡ answer_by n gray w h s most
+      go zero z = absurd (number-none r z)
+      go (suc n) z = unfold answer_by in refl

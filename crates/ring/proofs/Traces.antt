@@ -1,5 +1,4 @@
 -- The ways of a trace. Assumes nothing.
---   fixed-yes, fixed_no                whether there is a fix
 --   fallback-none, fallback-some       no fallback beside a fix, and one looked for without
 --   trace-is, trace-few, quad-trace    the trace of a quad by its scores, and by its search
 --   better-fix, -more, -less           of two traces the second by its fix, by its score, and the first
@@ -17,8 +16,7 @@ use Rattle.hull.specs.Points.{many}
 use Rattle.hull.specs.Hull.{hull_of}
 use Rattle.hull.specs.declared.points.Point.{Point}
 use Rattle.hull.specs.declared.points.Quad.{Quad}
-use Rattle.hull.specs.declared.points.Corners.{Corners}
-use Rattle.hull.specs.declared.points.Corners.TheVariants.{Found, NoQuad}
+use Rattle.std.specs.Prelude.{Option, Some, None}
 use Rattle.fit.specs.F32.{3f}
 use Rattle.fit.specs.Corner.{refined_of, same_of}
 use Rattle.fit.specs.Consensus.{edge_quad}
@@ -33,35 +31,25 @@ use Rattle.search.specs.declared.versions.Search.{Search}
 use Rattle.accept.specs.Accept.{accept_of}
 use Rattle.ring.specs.Trace.{span_of, is_fixed, fallback_of, trace_by, quad_trace, top_of, better_of, first_of, both_quads, short_trace, found_of, under_lens, picture_middle, lens_trace, attempt_of}
 use Rattle.accept.specs.declared.Fix.{Fix}
-use Rattle.accept.specs.declared.Fixed.{Fixed}
-use Rattle.accept.specs.declared.Fixed.TheVariants.{At, NoFix}
 use Rattle.ring.specs.declared.quads.Trace.{Trace}
 
 -- ---- a fix and a fallback
-pub fixed-yes : (f : Fixed) {x : Fix} → f ≡ At x → true ≡ is_fixed f
-unfolding is_fixed
-fixed-yes f e = sym (ap is_fixed e)
-
-pub fixed_no : (f : Fixed) → f ≡ NoFix → false ≡ is_fixed f
-unfolding is_fixed
-fixed_no f e = sym (ap is_fixed e)
-
-module _ (f : Fixed) (q : Quad) (s : Scores) (l : Lens) where
-  pub fallback-none : {x : Fix} → f ≡ At x → NoFix ≡ fallback_of f q s l
+module _ (f : Option Fix) (q : Quad) (s : Scores) (l : Lens) where
+  pub fallback-none : {x : Fix} → f ≡ Some x → None ≡ fallback_of f q s l
   unfolding fallback_of
-  fallback-none e = sym (ap (λ (f : Fixed). fallback_of f q s l) e)
+  fallback-none e = sym (ap (λ (f : Option Fix). fallback_of f q s l) e)
 
-  pub fallback-some : (r : Fixed) → f ≡ NoFix → r ≡ accept_of q s l true → r ≡ fallback_of f q s l
+  pub fallback-some : (r : Option Fix) → f ≡ None → r ≡ accept_of q s l true → r ≡ fallback_of f q s l
   unfolding fallback_of
-  fallback-some r e er = er ∙ sym (ap (λ (f : Fixed). fallback_of f q s l) e)
+  fallback-some r e er = er ∙ sym (ap (λ (f : Option Fix). fallback_of f q s l) e)
 
 -- ---- a quad
-pub trace-is : (q : Quad) (l : Lens) (hull : ℕ) (s : Scores) (fix back : Fixed) → fix ≡ accept_of q s l false → back ≡ fallback_of fix q s l
-    → record { hull = hull; quad = Found q; scores = s; fix = fix; fallback = back } ≡ trace_by q l hull s
+pub trace-is : (q : Quad) (l : Lens) (hull : ℕ) (s : Scores) (fix back : Option Fix) → fix ≡ accept_of q s l false → back ≡ fallback_of fix q s l
+    → record { hull = hull; quad = Some q; scores = s; fix = fix; fallback = back } ≡ trace_by q l hull s
 unfolding trace_by
 trace-is q l hull s fix back ef eb =
-    ap (λ (b : Fixed). record { hull = hull; quad = Found q; scores = s; fix = fix; fallback = b }) eb
-    ∙ ap (λ (f : Fixed). record { hull = hull; quad = Found q; scores = s; fix = f; fallback = fallback_of f q s l }) ef
+    ap (λ (b : Option Fix). record { hull = hull; quad = Some q; scores = s; fix = fix; fallback = b }) eb
+    ∙ ap (λ (f : Option Fix). record { hull = hull; quad = Some q; scores = s; fix = f; fallback = fallback_of f q s l }) ef
 
 pub trace-few : (q : Quad) (l : Lens) (hull : ℕ) (s : Scores) (r : Trace) → r ≡ trace_by q l hull s → s.many ≤ 64 → r.scores.many ≤ 64
 unfolding trace_by
@@ -99,21 +87,21 @@ module _ (t u : Trace) (b : Bool) (eb : b ≡ is_fixed u.fix) where
     pub better-less : lt x y ≡ false → t ≡ better_of t u
     better-less e = top-by false e
 
-module _ (gray : List ℕ) (w h : ℕ) (edges : Corners) (r : Quad) (l : Lens) (hull most : ℕ) where
+module _ (gray : List ℕ) (w h : ℕ) (edges : Option Quad) (r : Quad) (l : Lens) (hull most : ℕ) where
   abbrev alone : Quad → Trace
   alone q = quad_trace gray w h q l hull most
 
-  pub tried-one : (z : Trace) → edges ≡ NoQuad → z ≡ alone r → z ≡ both_quads gray w h edges r l hull most
+  pub tried-one : (z : Trace) → edges ≡ None → z ≡ alone r → z ≡ both_quads gray w h edges r l hull most
   unfolding both_quads
-  tried-one z e ez = ez ∙ sym (ap (λ (c : Corners). both_quads gray w h c r l hull most) e)
+  tried-one z e ez = ez ∙ sym (ap (λ (c : Option Quad). both_quads gray w h c r l hull most) e)
 
-  module _ {q : Quad} (some : edges ≡ Found q) (b : Bool) (eb : b ≡ same_of q r 3f) where
+  module _ {q : Quad} (some : edges ≡ Some q) (b : Bool) (eb : b ≡ same_of q r 3f) where
     abbrev ways : Bool → Trace
     ways b = cond b (alone r) (first_of (alone q) (alone r))
 
     tried-by : (c : Bool) → b ≡ c → ways c ≡ both_quads gray w h edges r l hull most
     unfolding both_quads
-    tried-by c e = ap ways (sym e ∙ eb) ∙ sym (ap (λ (c : Corners). both_quads gray w h c r l hull most) some)
+    tried-by c e = ap ways (sym e ∙ eb) ∙ sym (ap (λ (c : Option Quad). both_quads gray w h c r l hull most) some)
 
     pub tried_same : (z : Trace) → b ≡ true → z ≡ alone r → z ≡ both_quads gray w h edges r l hull most
     tried_same z e ez = ez ∙ tried-by true e
@@ -135,32 +123,32 @@ module _ (gray : List ℕ) (w h : ℕ) (edges : Corners) (r : Quad) (l : Lens) (
 
 -- ---- the attempt
 pub short-is : (hull : ℕ) (s : Search) → s ≡ none_tried
-    → record { hull = hull; quad = NoQuad; scores = s.scores; fix = NoFix; fallback = NoFix } ≡ short_trace hull
+    → record { hull = hull; quad = None; scores = s.scores; fix = None; fallback = None } ≡ short_trace hull
 unfolding short_trace
 short-is hull s e =
-    ap (λ (s : Search). record { hull = hull; quad = NoQuad; scores = s.scores; fix = NoFix; fallback = NoFix }) e
+    ap (λ (s : Search). record { hull = hull; quad = None; scores = s.scores; fix = None; fallback = None }) e
 
-module _ (gray : List ℕ) (w h : ℕ) (s : List Float) (hull : ℕ) (c : Corners) (l : Lens) (most : ℕ) where
-  pub found_none : (r : Trace) → c ≡ NoQuad → r ≡ short_trace hull → r ≡ found_of gray w h s hull c l most
+module _ (gray : List ℕ) (w h : ℕ) (s : List Float) (hull : ℕ) (c : Option Quad) (l : Lens) (most : ℕ) where
+  pub found_none : (r : Trace) → c ≡ None → r ≡ short_trace hull → r ≡ found_of gray w h s hull c l most
   unfolding found_of
-  found_none r e er = er ∙ sym (ap (λ (c : Corners). found_of gray w h s hull c l most) e)
+  found_none r e er = er ∙ sym (ap (λ (c : Option Quad). found_of gray w h s hull c l most) e)
 
-  pub found_some : {q : Quad} (edges : Corners) (refined : Quad) (r : Trace) → c ≡ Found q → refined ≡ refined_of s q → edges ≡ edge_quad s q
+  pub found_some : {q : Quad} (edges : Option Quad) (refined : Quad) (r : Trace) → c ≡ Some q → refined ≡ refined_of s q → edges ≡ edge_quad s q
       → r ≡ both_quads gray w h edges refined l hull most → r ≡ found_of gray w h s hull c l most
   unfolding found_of
   found_some {q} edges refined r e en ee er =
       er
-      ∙ ap (λ (c : Corners). both_quads gray w h c refined l hull most) ee
+      ∙ ap (λ (c : Option Quad). both_quads gray w h c refined l hull most) ee
       ∙ ap (λ (z : Quad). both_quads gray w h (edge_quad s q) z l hull most) en
-      ∙ sym (ap (λ (c : Corners). found_of gray w h s hull c l most) e)
+      ∙ sym (ap (λ (c : Option Quad). found_of gray w h s hull c l most) e)
 
 module _ (gray : List ℕ) (w h : ℕ) (s : List Float) (l : Lens) (most : ℕ) where
-  pub under-is : (n : ℕ) (c : Corners) (r : Trace) → n ≡ length (hull_of s (many s)) → c ≡ hull_quad s
+  pub under-is : (n : ℕ) (c : Option Quad) (r : Trace) → n ≡ length (hull_of s (many s)) → c ≡ hull_quad s
       → r ≡ found_of gray w h s n c l most → r ≡ under_lens gray w h s l most
   under-is n c r en ec er =
       er
       ∙ ap (λ (n : ℕ). found_of gray w h s n c l most) en
-      ∙ ap (λ (c : Corners). found_of gray w h s (length (hull_of s (many s))) c l most) ec
+      ∙ ap (λ (c : Option Quad). found_of gray w h s (length (hull_of s (many s))) c l most) ec
 
   lens-by : (b : Bool) → eq l.k 0f ≡ b
       → cond b (under_lens gray w h s l most) (under_lens gray w h (straight_of l s) l most) ≡ lens_trace gray w h s l most
@@ -175,10 +163,10 @@ module _ (gray : List ℕ) (w h : ℕ) (s : List Float) (l : Lens) (most : ℕ) 
       → r ≡ under_lens gray w h (take (2 * n) new) l most → r ≡ lens_trace gray w h s l most
   lens-straight r e kept er = er ∙ ap (λ (z : List Float). under_lens gray w h z l most) (kept-front kept) ∙ lens-by false e
 
-pub attempt-is : (gray : List ℕ) (w h : ℕ) (s : List Float) (most : ℕ) (c : Corners) (m : Point) (l : Lens) (r : Trace) → c ≡ hull_quad s
+pub attempt-is : (gray : List ℕ) (w h : ℕ) (s : List Float) (most : ℕ) (c : Option Quad) (m : Point) (l : Lens) (r : Trace) → c ≡ hull_quad s
     → m ≡ picture_middle w h → l ≡ lens_of s c m → r ≡ lens_trace gray w h s l most → r ≡ attempt_of gray w h s most
 unfolding attempt_of
 attempt-is gray w h s most c m l r ec em el er =
     er
     ∙ ap (λ (l : Lens). lens_trace gray w h s l most)
-    (el ∙ ap (λ (c : Corners). lens_of s c m) ec ∙ ap (lens_of s (hull_quad s)) em)
+    (el ∙ ap (λ (c : Option Quad). lens_of s c m) ec ∙ ap (lens_of s (hull_quad s)) em)

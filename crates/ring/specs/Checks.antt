@@ -1,6 +1,7 @@
 -- The ring door's checks, in order. Definitions only. Assumes nothing.
-use Rattle.std.specs.Prelude.{ℕ, zero, suc, ◌+◌, Bool, true, ◌&&◌, List, leb, Float, length, get_or}
-use Rattle.std.specs.Float.{nan, binary32}
+use Rattle.std.specs.Prelude.{ℕ, Bool, ◌&&◌, List, leb, Float, length}
+use Rattle.std.specs.List.{list_all}
+use Rattle.std.specs.Float.{binary32}
 use Rattle.std.specs.Float.Ieee.{le, of_bits}
 use Rattle.laws.specs.Check.{or_refuse}
 use Rattle.picture_checks.specs.Picture.{check_picture}
@@ -16,14 +17,9 @@ has_room n a b c = leb n a && (leb n b && leb n c)
 unfoldable pub coordinate_of : Float → Bool
 coordinate_of v = finite v && le (abs v) (of_bits binary32 0x4700_0000)
 
--- So are d numbers of a list from place k on.
-unfoldable pub coordinates_on : List Float → ℕ → ℕ → Bool
-coordinates_on s zero k = true
-coordinates_on s (suc d) k = coordinate_of (get_or s k nan) && coordinates_on s d (k + 1)
-
--- So are all its numbers.
+-- So are all numbers of a list.
 abbrev pub coordinates_of : List Float → Bool
-coordinates_of s = coordinates_on s (length s) 0
+coordinates_of s = list_all coordinate_of s
 
 -- 6: odd list, or over 16,384 points. 3: a working list with fewer numbers than the list of points. 7: a coordinate not finite or beyond
 -- ±32,768. 8: greatest version outside 1..64. 0: no refusal.

@@ -1,6 +1,6 @@
 -- What an attempt looks at and finds, by rules 33 to 36 and ring.rs in `correlate_quad` and `attempt`. Definitions only.
 -- Assumes nothing.
-use Rattle.std.specs.Prelude.{ℕ, Bool, true, false, cond, List, Float, length}
+use Rattle.std.specs.Prelude.{ℕ, Bool, true, false, cond, List, Float, length, Option, Some, None, is_some}
 use Rattle.std.specs.Float.{binary32}
 use Rattle.std.specs.Float.Ieee.{lt, eq, of_bits}
 use Rattle.ieee.specs.Root.{sqrt}
@@ -8,8 +8,6 @@ use Rattle.hull.specs.Points.{many}
 use Rattle.hull.specs.Hull.{hull_of}
 use Rattle.hull.specs.declared.points.Point.{Point}
 use Rattle.hull.specs.declared.points.Quad.{Quad}
-use Rattle.hull.specs.declared.points.Corners.{Corners}
-use Rattle.hull.specs.declared.points.Corners.TheVariants.{Found, NoQuad}
 use Rattle.fit.specs.F32.{◌⊕◌, ◌⊘◌, whole_float, 3f}
 use Rattle.ieee.specs.Constants.{0f, 2f}
 use Rattle.fit.specs.Corner.{d2_of, refined_of, same_of}
@@ -22,8 +20,7 @@ use Rattle.search.specs.Versions.{search_of, none_tried}
 use Rattle.search.specs.declared.versions.Scores.{Scores}
 use Rattle.search.specs.declared.versions.Goal.{Goal}
 use Rattle.accept.specs.Accept.{accept_of, runner_of}
-use Rattle.accept.specs.declared.Fixed.{Fixed}
-use Rattle.accept.specs.declared.Fixed.TheVariants.{At, NoFix}
+use Rattle.accept.specs.declared.Fix.{Fix}
 use Rattle.ring.specs.declared.quads.Trace.{Trace}
 
 -- ---- one quad
@@ -37,20 +34,19 @@ span_of q =
     (sqrt binary32 (d2_of q.a.x q.a.y q.c) ⊕ sqrt binary32 (d2_of q.b.x q.b.y q.d)) ⊘ 2f ⊘ root2
 
 -- There is a fix.
-unfoldable pub is_fixed : Fixed → Bool
-is_fixed (At f) = true
-is_fixed NoFix = false
+unfoldable pub is_fixed : Option Fix → Bool
+is_fixed f = is_some f
 
 -- The fix under the relaxed rule, looked for only where there is none under the ordinary one.
-unfoldable pub fallback_of : Fixed → Quad → Scores → Lens → Fixed
-fallback_of (At f) q s l = NoFix
-fallback_of NoFix q s l = accept_of q s l true
+unfoldable pub fallback_of : Option Fix → Quad → Scores → Lens → Option Fix
+fallback_of (Some f) q s l = None
+fallback_of None q s l = accept_of q s l true
 
 -- The trace of a quad by its scores.
 unfoldable pub trace_by : Quad → Lens → ℕ → Scores → Trace
 trace_by q l hull s = record {
   hull = hull;
-  quad = Found q;
+  quad = Some q;
   scores = s;
   fix = accept_of q s l false;
   fallback = fallback_of (accept_of q s l false) q s l;
@@ -78,21 +74,21 @@ unfoldable pub first_of : Trace → Trace → Trace
 first_of t u = cond (is_fixed t.fix) t (better_of t u)
 
 -- The edge quad is tried first, and only where it differs from the refined one by more than 3 at some corner, in x or y.
-unfoldable pub both_quads : List ℕ → ℕ → ℕ → Corners → Quad → Lens → ℕ → ℕ → Trace
-both_quads gray w h (Found e) r l hull most =
+unfoldable pub both_quads : List ℕ → ℕ → ℕ → Option Quad → Quad → Lens → ℕ → ℕ → Trace
+both_quads gray w h (Some e) r l hull most =
     cond (same_of e r 3f) (quad_trace gray w h r l hull most)
     (first_of (quad_trace gray w h e l hull most) (quad_trace gray w h r l hull most))
-both_quads gray w h NoQuad r l hull most = quad_trace gray w h r l hull most
+both_quads gray w h None r l hull most = quad_trace gray w h r l hull most
 
 -- ---- the attempt
 -- The trace without a quad.
 unfoldable pub short_trace : ℕ → Trace
-short_trace hull = record { hull = hull; quad = NoQuad; scores = none_tried.scores; fix = NoFix; fallback = NoFix }
+short_trace hull = record { hull = hull; quad = None; scores = none_tried.scores; fix = None; fallback = None }
 
 -- The trace of points with their hull's length and quad: without a quad it ends there.
-unfoldable pub found_of : List ℕ → ℕ → ℕ → List Float → ℕ → Corners → Lens → ℕ → Trace
-found_of gray w h s hull (Found q) l most = both_quads gray w h (edge_quad s q) (refined_of s q) l hull most
-found_of gray w h s hull NoQuad l most = short_trace hull
+unfoldable pub found_of : List ℕ → ℕ → ℕ → List Float → ℕ → Option Quad → Lens → ℕ → Trace
+found_of gray w h s hull (Some q) l most = both_quads gray w h (edge_quad s q) (refined_of s q) l hull most
+found_of gray w h s hull None l most = short_trace hull
 
 -- The trace of points under a lens.
 abbrev pub under_lens : List ℕ → ℕ → ℕ → List Float → Lens → ℕ → Trace

@@ -10,8 +10,7 @@ ghost use Rattle.ring.specs.Trace.{short_trace, found_of, under_lens, picture_mi
 ghost use Rattle.ring.specs.Trace.{attempt_of};
 
 use crate::quads::Trace;
-use accept::Fixed;
-use hull::points::{Corners, Point};
+use hull::points::Point;
 use lens::outer::Outer;
 use lens::straight::Lens;
 
@@ -23,10 +22,10 @@ pub fn short_trace(hull: usize) -> Trace
     let none = s.scores;
     Trace {
         hull: hull,
-        quad: Corners::NoQuad,
+        quad: None,
         scores: none,
-        fix: Fixed::NoFix,
-        fallback: Fixed::NoFix,
+        fix: None,
+        fallback: None,
     }
 }
 
@@ -56,7 +55,7 @@ fn found(
 {
     let found = o.quad;
     let n = o.hull;
-    let Corners::Found(q) = found else {
+    let Some(q) = found else {
         return short_trace(n);
     };
     let refined = fit::corners::refine_quad(s, q, buf);

@@ -5,8 +5,8 @@ ghost use Rattle.search.specs.Samples.{Photo};
 ghost use Rattle.ring.specs.Trace.{span_of, is_fixed, fallback_of, trace_by, quad_trace, top_of};
 ghost use Rattle.ring.specs.Trace.{better_of, both_quads};
 
-use accept::Fixed;
-use hull::points::{Corners, Quad};
+use accept::Fix;
+use hull::points::Quad;
 use lens::straight::Lens;
 use search::versions::{Goal, Scores};
 
@@ -16,13 +16,13 @@ pub struct Trace {
     // vertices of the hull that was searched: of the points, straightened where there is a lens
     pub hull: usize,
     // the quad that was searched, in pixels, straightened where there is a lens; or none
-    pub quad: Corners,
+    pub quad: Option<Quad>,
     // the scores of the versions tried, in version order
     pub scores: Scores,
     // the accepted ring, or none
-    pub fix: Fixed,
+    pub fix: Option<Fix>,
     // the ring under the relaxed rule, where there is no fix
-    pub fallback: Fixed,
+    pub fallback: Option<Fix>,
 }
 
 // The outer side of a quad: its mean diagonal over the root of 2.
@@ -35,24 +35,21 @@ fn span_of(q: Quad) -> f32
 }
 
 // Whether there is a fix.
-pub fn is_fixed(f: Fixed) -> bool
+pub fn is_fixed(f: Option<Fix>) -> bool
     ensures { result ≡ is_fixed f }
 {
-    let Fixed::At(_) = f else {
-        return false;
-    };
-    true
+    f.is_some()
 }
 
 // The fix under the relaxed rule, where there is none under the ordinary one.
-fn fallback_of(f: Fixed, q: Quad, s: Scores, l: Lens) -> Fixed
+fn fallback_of(f: Option<Fix>, q: Quad, s: Scores, l: Lens) -> Option<Fix>
     requires { s.many ≤ 64 }
     ensures { result ≡ fallback_of f q s l }
 {
-    let Fixed::At(_) = f else {
-        return accept::accept(q, s, l, true);
-    };
-    Fixed::NoFix
+    match f {
+        Some(_) => None,
+        None => accept::accept(q, s, l, true),
+    }
 }
 
 // The trace of a quad by its scores.
@@ -64,7 +61,7 @@ fn trace_by(q: Quad, l: Lens, hull: usize, s: Scores) -> Trace
     let fallback = fallback_of(fix, q, s, l);
     Trace {
         hull: hull,
-        quad: Corners::Found(q),
+        quad: Some(q),
         scores: s,
         fix: fix,
         fallback: fallback,
@@ -120,7 +117,7 @@ pub(crate) fn try_quads(
     gray: &[u8],
     w: usize,
     h: usize,
-    edges: Corners,
+    edges: Option<Quad>,
     refined: Quad,
     l: Lens,
     hull: usize,
@@ -130,7 +127,7 @@ pub(crate) fn try_quads(
     requires most_bound { most ≤ 64 }
     ensures { result ≡ both_quads gray.now w h edges refined l hull most }
 {
-    let Corners::Found(e) = edges else {
+    let Some(e) = edges else {
         return correlate_quad(gray, w, h, refined, l, hull, most);
     };
     if fit::corners::same_quad(e, refined, 3.0) {

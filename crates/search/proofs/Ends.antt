@@ -3,10 +3,10 @@
 --   steps-ended                   an open search with a step for each version left, and one more, has ended after them
 --   search-ends                   65 steps are enough for 64 versions
 use Rattle.std.proofs.Common.{◌≡◌, ℕ, zero, suc, ◌+◌, ◌≤◌, Bool, true, false, List, sym, refl, ap, ◌∙◌, ⊎_elim, arith}
+use Rattle.std.specs.Prelude.{Option, Some, None}
+use Rattle.transform.specs.declared.Transform.{Transform}
 use Rattle.laws.proofs.Bools.{le-or-lt}
 use Rattle.lcr_core.specs.Version.{side_of}
-use Rattle.transform.specs.declared.Mapped.{Mapped}
-use Rattle.transform.specs.declared.Mapped.TheVariants.{None, Some}
 use Rattle.search.specs.Geometry.{transform_of}
 use Rattle.search.specs.Versions.{none_tried, too_small, ended_of, scored_of, step_of, steps_on}
 use Rattle.search.specs.Claims.{SearchEnds}
@@ -15,12 +15,12 @@ use Rattle.search.specs.declared.versions.Goal.{Goal}
 use Rattle.search.proofs.Searches.{step_past, step_small, step-tried, steps-stay}
 
 module _ (gray : List ℕ) (w h : ℕ) where
-  pub scored-next : (s : Search) (m : Mapped) → (scored_of gray w h s m).next ≡ s.next + 1
+  pub scored-next : (s : Search) (m : Option Transform) → (scored_of gray w h s m).next ≡ s.next + 1
   unfolding scored_of
   scored-next s (Some t) = refl
   scored-next s None = refl
 
-  pub scored-open : (s : Search) (m : Mapped) → (scored_of gray w h s m).ended ≡ false
+  pub scored-open : (s : Search) (m : Option Transform) → (scored_of gray w h s m).ended ≡ false
   unfolding scored_of
   scored-open s (Some t) = refl
   scored-open s None = refl
@@ -43,7 +43,7 @@ module _ (gray : List ℕ) (w h : ℕ) where
       After = (steps_on gray w h g d (k + 1) (step_of gray w h g s)).ended ≡ true
 
       -- A version tried: the next one is within the greatest and one more, and one step fewer is left.
-      on : (m : Mapped) → s.next ≤ g.most → scored_of gray w h s m ≡ step_of gray w h g s → After
+      on : (m : Option Transform) → s.next ≤ g.most → scored_of gray w h s m ≡ step_of gray w h g s → After
       on m less q =
           let n = scored-next s m in
           ap (λ (z : Search). (steps_on gray w h g d (k + 1) z).ended) (sym q)

@@ -3,11 +3,12 @@
 --   inner-yes, inner-no                     the test for a position's inner cell
 --   luma-two, luma-one                      the luma of both cells, and of the outer one
 use Rattle.std.proofs.Common.{◌≡◌, ℕ, ◌+◌, ◌<◌, Bool, true, false, cond, ◌&&◌, List, [], ◌∷◌, ◌++◌, length, take, set, sym, refl, ap, ◌∙◌, add-one, arith, take_all, take-suc-set}
+use Rattle.std.specs.Prelude.{Option, Some, None, eqb}
+use Rattle.std.specs.Option.{option_eq}
 use lib.Ieee.{Float}
 use Rattle.transform.specs.declared.Transform.{Transform}
 use Rattle.lcr_core.specs.Border.{position_at, inner_cell, is_two_deep}
 use Rattle.lcr_core.specs.declared.border.Cell.{Cell}
-use Rattle.lcr_core.specs.declared.border.Place.{Place}
 use Rattle.search.specs.Samples.{sample_cell, mean_luma}
 use Rattle.search.specs.Lumas.{is_at, has_inner, outer_sum, luma_at, lumas_listed}
 use Rattle.search.specs.declared.samples.Sum.{Sum}
@@ -26,16 +27,21 @@ pub listed-done : (f : ℕ → Float) (m : List Float) (p n : ℕ) → p ≡ n �
 listed-done f m p n ep el e = sym (take_all p m (omega arith)) ∙ e ∙ ap (λ (k : ℕ). lumas_listed k f) ep
 
 -- ---- a position's inner cell
+at-is : (place : Option ℕ) (p : ℕ) → option_eq eqb place (Some p) ≡ is_at place p
+unfolding is_at
+at-is (Some k) p = refl
+at-is None p = refl
+
 module _ (v p : ℕ) (deep : Bool) (is : deep ≡ is_two_deep p) where
   pub inner-no : deep ≡ false → false ≡ has_inner v p
   unfolding has_inner
   inner-no e = sym (ap (λ (b : Bool). b && is_at (position_at v (inner_cell v p).x (inner_cell v p).y) p) (sym is ∙ e))
 
-  pub inner-yes : (r : Bool) (place : Place) → deep ≡ true → place ≡ position_at v (inner_cell v p).x (inner_cell v p).y → r ≡ is_at place p
+  pub inner-yes : (r : Bool) (place : Option ℕ) → deep ≡ true → place ≡ position_at v (inner_cell v p).x (inner_cell v p).y → r ≡ option_eq eqb place (Some p)
       → r ≡ has_inner v p
   unfolding has_inner
   inner-yes r place e ep er =
-      er ∙ ap (λ (z : Place). is_at z p) ep
+      er ∙ at-is place p ∙ ap (λ (z : Option ℕ). is_at z p) ep
       ∙ sym (ap (λ (b : Bool). b && is_at (position_at v (inner_cell v p).x (inner_cell v p).y) p) (sym is ∙ e))
 
 -- ---- a position's luma

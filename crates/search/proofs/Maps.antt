@@ -3,27 +3,27 @@
 --   map-none, map-some        no transform of a quad, and one
 --   place-back                the position of an inner cell, as read back
 --   marked, marked-long       marks written by `classify`, and as many as lumas
---   front-room, front_long, pose-is   the marks at the beginning of a longer list, and their pose
-use Rattle.std.proofs.Common.{◌≡◌, ℕ, ◌<◌, ◌≤◌, Bool, true, false, cond, eqb, List, ◌++◌, length, take, sym, refl, ap, ◌∙◌, subst, arith, length-append, take_at, w32, to_z, of_z, eq-eqb}
+--   not-refused               `classify` does not refuse them
+--   front-room, front_long, pose-is, pose-never   the marks at the beginning of a longer list, and their pose
+use Rattle.std.proofs.Common.{◌≡◌, ℕ, ◌<◌, ◌≤◌, Bool, true, false, cond, List, ◌++◌, length, take, sym, refl, ap, ◌∙◌, subst, arith, length-append, take_at, w32, to_z, of_z, eq-eqb}
+use Rattle.std.specs.Prelude.{Option, Some, None, Result, Ok, Err}
 use lib.Ieee.{Float, eq}
 use Rattle.ieee.specs.Constants.{0f}
 use Rattle.lcr_core.proofs.Versions.{version-passes}
 use Rattle.transform.specs.Mapping.{from_quad, with_radial}
 use Rattle.transform.specs.declared.Transform.{Transform}
-use Rattle.transform.specs.declared.Mapped.{Mapped}
-use Rattle.transform.specs.declared.Mapped.TheVariants.{None, Some}
 use Rattle.lcr_core.specs.Version.{IsVersion, positions_of}
 use Rattle.lcr_core.specs.Border.{position_at, inner_cell}
-use Rattle.laws.specs.Check.{or_refuse}
 use Rattle.lcr_core.specs.declared.border.Cell.{Cell}
-use Rattle.lcr_core.specs.declared.border.Place.{Place}
 use Rattle.lcr_core.proofs.DoorLaws.{place_at}
 use Rattle.marks.specs.Classify.{lights, light_at}
-use Rattle.marks.specs.Doors.{classify_answer, marks_after, correlate_answer, marked_pose}
-use Rattle.marks.specs.declared.classify.Classified.{Classified}
-use Rattle.marks.specs.declared.classify.Classified.TheVariants as classified
-use Rattle.marks.specs.declared.correlate.Best.{Best}
-use Rattle.marks.specs.declared.correlate.Best.TheVariants as best
+use Rattle.marks.specs.Doors.{classify_answer, marks_after, correlate_answer, pose_and_counts}
+use Rattle.marks.specs.declared.correlate.Correlated.{Correlated}
+use Rattle.marks.specs.declared.correlate.Pose.{Pose}
+use Rattle.laws.specs.Said.{give}
+use Rattle.refusal.specs.declared.Refusal.{Refusal}
+use Rattle.refusal.specs.Numbers.{said}
+use Rattle.refusal.proofs.Numbers.{said-give}
 use Rattle.marks.proofs.MarkLists.{marks-length}
 use Rattle.hull.specs.declared.points.Quad.{Quad}
 use Rattle.lens.specs.declared.straight.Lens.{Lens}
@@ -43,7 +43,7 @@ lens_none l t e = lens-by l t true e
 pub lens-some : (l : Lens) (t r : Transform) → eq l.k 0f ≡ false → r ≡ with_radial t l.x l.y l.k → r ≡ lensed l t
 lens-some l t r e er = er ∙ lens-by l t false e
 
-module _ (q : Quad) (side : ℕ) (l : Lens) (a b : List Float) (m : Mapped) (ea : a ≡ ring_numbers side) (eb : b ≡ corner_numbers q)
+module _ (q : Quad) (side : ℕ) (l : Lens) (a b : List Float) (m : Option Transform) (ea : a ≡ ring_numbers side) (eb : b ≡ corner_numbers q)
     (em : m ≡ from_quad a b) where
   map_is : lensed_map l m ≡ transform_of q side l
   unfolding transform_of
@@ -60,7 +60,7 @@ module _ (q : Quad) (side : ℕ) (l : Lens) (a b : List Float) (m : Mapped) (ea 
   map-some r e er = ap (λ (t : Transform). Some t) er ∙ sym (ap (lensed_map l) e) ∙ map_is
 
 -- ---- the position of an inner cell
-pub place-back : (v p : ℕ) (cell : Cell) (place : Place) → v < 256 → cell ≡ inner_cell v p
+pub place-back : (v p : ℕ) (cell : Cell) (place : Option ℕ) → v < 256 → cell ≡ inner_cell v p
     → place ≡ position_at v (to_z w32 (of_z w32 cell.x)) (to_z w32 (of_z w32 cell.y))
     → place ≡ position_at v (inner_cell v p).x (inner_cell v p).y
 place-back v p cell place few ec ep =
@@ -71,19 +71,17 @@ place-back v p cell place few ec ep =
 
 -- ---- marks and their pose
 module _ (v : ℕ) (lumas : List Float) (i : IsVersion v) (long : length lumas ≡ positions_of v) where
-  pub marked : (old new : List Bool) (r : Classified) → length old ≡ length lumas → r ≡ classify_answer v lumas old
-      → new ≡ marks_after r lumas old → new ≡ lights lumas
-  marked old new r same er en =
-      let e : length old ≡ positions_of v = same ∙ long in
-      en
-      ∙ ap (λ (r : Classified). marks_after r lumas old)
-      (er
-      ∙ ap (λ (b : Bool). or_refuse b (classified.Refused 8)
-      (or_refuse (eqb (length lumas) (positions_of v)) (classified.Refused 11)
-      (or_refuse (eqb (length old) (positions_of v)) (classified.Refused 11) classified.Done))) (version-passes v i)
-      ∙ ap (λ (b : Bool). or_refuse b (classified.Refused 11)
-      (or_refuse (eqb (length old) (positions_of v)) (classified.Refused 11) classified.Done)) (eq-eqb (length lumas) (positions_of v) long)
-      ∙ ap (λ (b : Bool). or_refuse b (classified.Refused 11) classified.Done) (eq-eqb (length old) (positions_of v) e))
+  passes : (old : List Bool) → length old ≡ length lumas → classify_answer v lumas old ≡ give tt
+  passes old same =
+      rw (version-passes v i, eq-eqb (length lumas) (positions_of v) long, eq-eqb (length old) (positions_of v) (same ∙ long))
+
+  pub marked : (old new : List Bool) (r : Result (Unit {0}) Refusal) → length old ≡ length lumas → said r ≡ classify_answer v lumas old
+      → new ≡ marks_after (said r) lumas old → new ≡ lights lumas
+  marked old new r same er en = en ∙ ap (λ r. marks_after r lumas old) (er ∙ passes old same)
+
+  pub not-refused : (old : List Bool) {e : Refusal} (r : Result (Unit {0}) Refusal) → length old ≡ length lumas
+      → said r ≡ classify_answer v lumas old → r ≡ Err e → ⊥
+  not-refused old r same er ee = let f = said-give _ _ (er ∙ passes old same) in let z : ⊥ = cc in z
 
   lights-long : length (lights lumas) ≡ length lumas
   unfolding lights
@@ -102,12 +100,23 @@ module _ (v : ℕ) (lumas : List Float) (i : IsVersion v) (long : length lumas �
     pub front_long : length lumas ≡ length (take (length lumas) (new ++ rest))
     front_long = sym (ap length front ∙ marked-long)
 
-    pub pose-is : (b : Best) → b ≡ correlate_answer v (take (length lumas) (new ++ rest)) → b ≡ pose_of v lumas
+    reads : correlate_answer v (take (length lumas) (new ++ rest)) ≡ give (pose_and_counts v (lights lumas))
+    reads =
+        ap (correlate_answer v) (front ∙ is)
+        ∙ rw (version-passes v i, eq-eqb (length (lights lumas)) (positions_of v) (lights-long ∙ long))
+
+    read-ok : (r : Result Correlated Refusal) → said r ≡ correlate_answer v (take (length lumas) (new ++ rest))
+        → r ≡ Ok (pose_and_counts v (lights lumas))
+    read-ok r er = said-give _ _ (er ∙ reads)
+
+    pub pose-is : {c : Correlated} (r : Result Correlated Refusal) → said r ≡ correlate_answer v (take (length lumas) (new ++ rest))
+        → r ≡ Ok c → ◌≡◌ {A = Result Pose Refusal} (Ok c.best) (Ok (pose_of v lumas))
     unfolding pose_of
-    pose-is b eb =
-        let s = lights lumas in
-        eb
-        ∙ ap (correlate_answer v) (front ∙ is)
-        ∙ ap (λ (b : Bool). or_refuse b (best.Refused 8)
-        (or_refuse (eqb (length s) (positions_of v)) (best.Refused 11) (marked_pose v s))) (version-passes v i)
-        ∙ ap (λ (b : Bool). or_refuse b (best.Refused 11) (marked_pose v s)) (eq-eqb (length s) (positions_of v) (lights-long ∙ long))
+    pose-is {c} r er eo =
+        let f = read-ok r er in
+        let q : c ≡ pose_and_counts v (lights lumas) = cc in
+        ap (λ (c : Correlated). Ok c.best) q
+
+    pub pose-never : {e : Refusal} (r : Result Correlated Refusal)
+        → said r ≡ correlate_answer v (take (length lumas) (new ++ rest)) → r ≡ Err e → ⊥
+    pose-never r er ee = let f = read-ok r er in let z : ⊥ = cc in z

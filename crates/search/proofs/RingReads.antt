@@ -9,17 +9,18 @@ use lib.Ieee.{Float}
 use Rattle.laws.proofs.Bools.{both, clash}
 use Rattle.transform.specs.declared.Transform.{Transform}
 use Rattle.lcr_core.specs.Version.{IsVersion, version_answer, positions_of}
-use Rattle.lcr_core.specs.declared.version.VersionAnswer.{VersionAnswer}
-use Rattle.lcr_core.specs.declared.version.VersionAnswer.TheVariants.{Refused}
 use Rattle.lcr_core.proofs.DoorLaws.{version-refused}
-use Rattle.marks.specs.declared.correlate.Best.{Best}
+use Rattle.marks.specs.declared.correlate.Pose.{Pose}
+use Rattle.refusal.specs.declared.Refusal.{Refusal}
+use Rattle.refusal.specs.Numbers.{said}
+use Rattle.std.specs.Prelude.{Result, Ok, Err}
 use Rattle.search.specs.Lumas.{luma_at, lumas_listed, lumas_of}
 use Rattle.search.specs.Versions.{score_by, pose_of, read_of}
 use Rattle.search.specs.declared.versions.Score.{Score}
 
-pub never-refused : (v n : ℕ) (r : VersionAnswer) → IsVersion v → r ≡ version_answer v → r ≡ Refused n → ⊥
-never-refused v n r i e f =
-    clash (both (leb 1 v) (leb v 64) (le-leb 1 v i.least) (le-leb v 64 i.greatest)) (version-refused v n r e f)
+pub never-refused : (v : ℕ) {e : Refusal} (r : Result ℕ Refusal) → IsVersion v → said r ≡ version_answer v → r ≡ Err e → ⊥
+never-refused v r i e f =
+    clash (both (leb 1 v) (leb v 64) (le-leb 1 v i.least) (le-leb v 64 i.greatest)) (version-refused v _ r e f).0
 
 pub room_for : (k v n m : ℕ) → k ≡ v → n ≡ positions_of k → 1112 ≡ m → v ≤ 64 → n ≤ m
 room_for k v n m a b c d = omega arith
@@ -47,10 +48,11 @@ module _ (gray : List ℕ) (w h : ℕ) (t : Transform) (k : ℕ) where
     pub lumas-fit : n ≡ length (take n (new ++ rest))
     lumas-fit = sym (ap length lumas-part ∙ long)
 
-    pub read_is : (version : ℕ) (b : Best) (r : Score) → k ≡ version → b ≡ pose_of version (take n (new ++ rest)) → r ≡ score_by version b
-        → r ≡ read_of gray w h t version
+    pub read_is : (version : ℕ) {b : Pose} (p : Result Pose Refusal) (r : Score) → k ≡ version
+        → p ≡ Ok (pose_of version (take n (new ++ rest))) → p ≡ Ok b → r ≡ score_by version b → r ≡ read_of gray w h t version
     unfolding read_of
-    read_is version b r ek eb er =
+    read_is version {b} p r ek ep eo er =
+        let eb : b ≡ pose_of version (take n (new ++ rest)) = cc in
         er
         ∙ ap (score_by version)
         (eb ∙ ap (pose_of version) (lumas-part ∙ is) ∙ ap (λ (k : ℕ). pose_of version (lumas_of gray w h t k)) ek)

@@ -4,11 +4,10 @@
 --   step-ended, step_past, step_small, step-tried   the ways of a step
 --   steps-step, steps-stay, steps-end          one step more of a run, a run of an ended search, and its end
 use Rattle.std.proofs.Common.{◌≡◌, ℕ, zero, suc, ◌+◌, ◌-◌, ◌<◌, ◌≤◌, Bool, true, false, cond, ltb, List, sym, refl, ap, ◌∙◌, arith, le-ltb, lt-ltb}
+use Rattle.std.specs.Prelude.{Option, Some, None}
 use Rattle.laws.proofs.Steps.{on, done}
 use Rattle.lcr_core.specs.Version.{side_of}
 use Rattle.transform.specs.declared.Transform.{Transform}
-use Rattle.transform.specs.declared.Mapped.{Mapped}
-use Rattle.transform.specs.declared.Mapped.TheVariants.{None, Some}
 use Rattle.search.specs.Geometry.{transform_of}
 use Rattle.search.specs.Versions.{read_of, none_tried, push_of, too_small, ended_of, scored_of, next_tried, step_of, steps_on, ScoreRoom}
 use Rattle.search.specs.declared.versions.Score.{Score}
@@ -24,7 +23,7 @@ pub ended_held : {s : Search} → ScoreRoom s → ScoreRoom (ended_of s)
 ended_held q = record { some = q.some; few = q.few; room = q.room }
 
 module _ (gray : List ℕ) (w h : ℕ) where
-  pub scored-held : {s : Search} (m : Mapped) → s.next ≤ 64 → ScoreRoom s → ScoreRoom (scored_of gray w h s m)
+  pub scored-held : {s : Search} (m : Option Transform) → s.next ≤ 64 → ScoreRoom s → ScoreRoom (scored_of gray w h s m)
   unfolding scored_of
   scored-held (Some t) l q =
       let a = q.some in let b = q.room in record { some = omega arith; few = omega arith; room = omega arith }
@@ -32,7 +31,7 @@ module _ (gray : List ℕ) (w h : ℕ) where
       let a = q.some in let b = q.room in record { some = omega arith; few = q.few; room = omega arith }
 
   -- ---- a version
-  module _ (g : Goal) (s : Search) (n : ℕ) (m : Mapped) (en : n ≡ side_of s.next) (em : m ≡ transform_of g.quad n g.lens) where
+  module _ (g : Goal) (s : Search) (n : ℕ) (m : Option Transform) (en : n ≡ side_of s.next) (em : m ≡ transform_of g.quad n g.lens) where
     mapped : m ≡ transform_of g.quad (side_of s.next) g.lens
     mapped = em ∙ ap (λ (n : ℕ). transform_of g.quad n g.lens) en
 

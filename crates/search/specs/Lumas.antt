@@ -1,19 +1,17 @@
 -- The luma of each ring position, as ring.rs has it in `ring_lumas`: the mean over a position's cells, its inner one only where the ring is
 -- two deep there and the cell is the position's own. Definitions only. Assumes nothing.
-use Rattle.std.specs.Prelude.{ℕ, zero, suc, Bool, false, cond, ◌&&◌, List, [], ◌∷◌, ◌++◌, ◌==◌, Float}
+use Rattle.std.specs.Prelude.{ℕ, zero, suc, Bool, false, cond, ◌&&◌, List, [], ◌∷◌, ◌++◌, ◌==◌, Float, Option, Some, None}
 use Rattle.ieee.specs.Constants.{0f}
 use Rattle.transform.specs.declared.Transform.{Transform}
 use Rattle.lcr_core.specs.Version.{positions_of}
 use Rattle.lcr_core.specs.Border.{position_at, outer_cell, inner_cell, is_two_deep}
-use Rattle.lcr_core.specs.declared.border.Place.{Place}
-use Rattle.lcr_core.specs.declared.border.Place.TheVariants.{At, Outside}
 use Rattle.search.specs.declared.samples.Sum.{Sum}
 use Rattle.search.specs.Samples.{sample_cell, mean_luma}
 
 -- A place is position p.
-unfoldable pub is_at : Place → ℕ → Bool
-is_at (At k) p = k == p
-is_at Outside p = false
+unfoldable pub is_at : Option ℕ → ℕ → Bool
+is_at (Some k) p = k == p
+is_at None p = false
 
 -- The ring of version v is two deep at position p, and the inner cell maps back to p.
 unfoldable pub has_inner : ℕ → ℕ → Bool

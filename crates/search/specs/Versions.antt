@@ -1,16 +1,13 @@
 -- The search over versions, one version a step, as ring.rs has it in `correlate_quad`: a version without a transform is skipped, and only
 -- a pitch under 2 ends the list before the greatest version. Definitions only. Assumes nothing.
-use Rattle.std.specs.Prelude.{ℕ, zero, suc, ◌+◌, ◌≤◌, Bool, true, false, cond, List, [], ◌∷◌, from_bits, nat_lt, slice_set, Float}
+use Rattle.std.specs.Prelude.{ℕ, zero, suc, ◌+◌, ◌≤◌, Bool, true, false, cond, List, [], ◌∷◌, from_bits, nat_lt, slice_set, Float, Option, Some, None}
 use Rattle.std.specs.Float.{binary32}
 use Rattle.std.specs.Float.Ieee.{lt}
 use Rattle.lcr_core.specs.Version.{side_of}
 use Rattle.transform.specs.declared.Transform.{Transform}
-use Rattle.transform.specs.declared.Mapped.{Mapped}
-use Rattle.transform.specs.declared.Mapped.TheVariants.{None, Some}
 use Rattle.marks.specs.Classify.{lights}
 use Rattle.marks.specs.Doors.{marked_pose}
-use Rattle.marks.specs.declared.correlate.Best.{Best}
-use Rattle.marks.specs.declared.correlate.Best.TheVariants.{Pose, Refused}
+use Rattle.marks.specs.declared.correlate.Pose.{Pose}
 use Rattle.fit.specs.F32.{◌⊕◌, ◌⊘◌, whole_float}
 use Rattle.ieee.specs.Constants.{0f, 2f}
 use Rattle.search.specs.Geometry.{transform_of}
@@ -26,13 +23,12 @@ abbrev pub no_score : Score
 no_score = record { version = 0; agreement = 0f; corner = 0; mirrored = false }
 
 -- A pose as the score of a version.
-unfoldable pub score_by : ℕ → Best → Score
-score_by version (Pose agreement corner mirrored) =
-    record { version = version; agreement = agreement; corner = corner; mirrored = mirrored }
-score_by version (Refused n) = no_score
+unfoldable pub score_by : ℕ → Pose → Score
+score_by version best =
+    record { version = version; agreement = best.score; corner = best.corner; mirrored = best.reversed }
 
 -- The best pose of lumas: of the marks that they are light or dark by.
-unfoldable pub pose_of : ℕ → List Float → Best
+unfoldable pub pose_of : ℕ → List Float → Pose
 pose_of version lumas = marked_pose version (lights lumas)
 
 -- The score of a version under a transform.
@@ -66,7 +62,7 @@ abbrev pub ended_of : Search → Search
 ended_of s = record { next = s.next; ended = true; scores = s.scores }
 
 -- A version with a transform is scored; one without is skipped.
-unfoldable pub scored_of : List ℕ → ℕ → ℕ → Search → Mapped → Search
+unfoldable pub scored_of : List ℕ → ℕ → ℕ → Search → Option Transform → Search
 scored_of gray w h s (Some t) =
     record { next = s.next + 1; ended = false; scores = push_of s.scores (read_of gray w h t s.next) }
 scored_of gray w h s None = record { next = s.next + 1; ended = false; scores = s.scores }

@@ -5,7 +5,7 @@ ghost use Rattle.search.specs.Geometry.{transform_of};
 
 use hull::points::Quad;
 use lens::straight::Lens;
-use transform::{Mapped, Transform};
+use transform::Transform;
 
 // The corners of the ring's outer square in module space, x and y alternating: 3 cells out.
 fn ring_numbers(side: u16) -> [f32; 8]
@@ -34,11 +34,9 @@ fn with_lens(t: Transform, l: Lens) -> Transform
 }
 
 // The transform that takes the outer square of a ring onto a quad, bent by a lens; or none.
-pub fn ring_transform(q: Quad, side: u16, l: Lens) -> Mapped
+pub fn ring_transform(q: Quad, side: u16, l: Lens) -> Option<Transform>
     ensures { result ≡ transform_of q side l }
 {
-    let Mapped::Some(t) = transform::from_quad(ring_numbers(side), corner_numbers(q)) else {
-        return Mapped::None;
-    };
-    Mapped::Some(with_lens(t, l))
+    let t = transform::from_quad(ring_numbers(side), corner_numbers(q))?;
+    Some(with_lens(t, l))
 }

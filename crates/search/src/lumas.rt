@@ -1,42 +1,29 @@
 // The luma of each ring position: `ring_lumas` of the Rust's ring.rs.
-ghost use Rattle.std.specs.Prelude.{◌≡◌, ◌<◌, length};
-ghost use Rattle.lcr_core.specs.Version.{IsVersion, positions_of};
+ghost use Rattle.std.specs.Prelude.{◌≡◌, length};
+ghost use Rattle.lcr_core.specs.Version.{positions_of};
 ghost use Rattle.search.specs.Samples.{Photo};
-ghost use Rattle.search.specs.Lumas.{is_at, has_inner, outer_sum, luma_at, lumas_of};
+ghost use Rattle.search.specs.Lumas.{has_inner, outer_sum, luma_at, lumas_of};
 
 use crate::samples::{Sum, mean_of, sample_cell};
 use lcr_core::border;
-use lcr_core::border::Place;
 use lcr_core::version::Version;
 use transform::Transform;
 
-// Whether a place is position p.
-fn is_at(place: Place, p: usize) -> bool
-    ensures { result ≡ is_at place p }
-{
-    let Place::At(k) = place else {
-        return false;
-    };
-    k == p
-}
-
 // Whether the ring is two deep at a position, and its inner cell is the position's own.
 fn has_inner(p: usize, v: Version) -> bool
-    requires { IsVersion v.0 }
-    ensures { result ≡ has_inner v.0 p }
+    ensures { result ≡ has_inner v p }
 {
     if border::is_two_deep(p) {
         let cell = border::inner_cell(p, v);
-        return is_at(border::position(cell.x, cell.y, v), p);
+        return border::position(cell.x, cell.y, v) == Some(p);
     }
     false
 }
 
 // The samples of a position's outer cell.
 fn outer_sum(gray: &[u8], w: usize, h: usize, t: Transform, v: Version, p: usize) -> Sum
-    requires photo { Photo gray.now w h }
-    requires version { IsVersion v.0 }
-    ensures { result ≡ outer_sum gray.now w h t v.0 p }
+    requires { Photo gray.now w h }
+    ensures { result ≡ outer_sum gray.now w h t v p }
 {
     let none = Sum { sum: 0.0, n: 0.0 };
     sample_cell(gray, w, h, t, border::outer_cell(p, v), none)
@@ -44,9 +31,8 @@ fn outer_sum(gray: &[u8], w: usize, h: usize, t: Transform, v: Version, p: usize
 
 // The luma of a position.
 fn luma_at(gray: &[u8], w: usize, h: usize, t: Transform, v: Version, p: usize) -> f32
-    requires photo { Photo gray.now w h }
-    requires version { IsVersion v.0 }
-    ensures { result ≡ luma_at gray.now w h t v.0 p }
+    requires { Photo gray.now w h }
+    ensures { result ≡ luma_at gray.now w h t v p }
 {
     let outer = outer_sum(gray, w, h, t, v, p);
     if has_inner(p, v) {
@@ -59,14 +45,11 @@ fn luma_at(gray: &[u8], w: usize, h: usize, t: Transform, v: Version, p: usize) 
 // The lumas of all positions of a version, into the lent list.
 pub fn ring_lumas(gray: &[u8], w: usize, h: usize, t: Transform, v: Version, out: &mut [f32])
     requires photo { Photo gray.now w h }
-    requires version { IsVersion v.0 }
-    requires out_len { length out.old ≡ positions_of v.0 }
-    ensures { out.new ≡ lumas_of gray.now w h t v.0 }
+    requires out_len { length out.old ≡ positions_of v }
+    ensures { out.new ≡ lumas_of gray.now w h t v }
 {
-    let n = out.len();
-    let mut p = 0usize;
-    while p < n {
+    let n = v.positions();
+    for p in 0..n {
         out[p] = luma_at(gray, w, h, t, v, p);
-        p += 1;
     }
 }

@@ -1,16 +1,17 @@
 // The search over versions for one quad: the loop of `correlate_quad` of the Rust's ring.rs, one
 // version a step.
-ghost use Rattle.std.specs.Prelude.{◌≡◌, ◌+◌, ◌<◌, ◌≤◌, length};
+ghost use Rattle.std.specs.Prelude.{◌≡◌, ◌+◌, ◌<◌, ◌≤◌, length, Ok};
 ghost use Rattle.lcr_core.specs.Version.{IsVersion, positions_of};
 ghost use Rattle.search.specs.Samples.{Photo};
 ghost use Rattle.search.specs.Versions.{no_score, score_by, pose_of, read_of, none_tried, push_of};
 ghost use Rattle.search.specs.Versions.{too_small, ended_of, next_tried, step_of, search_of, ScoreRoom};
 
 use hull::points::Quad;
-use lcr_core::version::{Version, VersionAnswer};
+use lcr_core::version::Version;
 use lens::straight::Lens;
-use marks::correlate::Best;
-use transform::{Mapped, Transform};
+use marks::correlate::Pose;
+use refusal::Refusal;
+use transform::Transform;
 
 // What was read of a version.
 #[derive(Clone, Copy)]
@@ -33,6 +34,7 @@ pub struct Scores {
 }
 
 // A search held between versions: the next version, whether it has ended, the scores so far.
+// Kept: what may not change, since `step_of` and theorem `SearchEnds` are about a search that has ended.
 #[derive(Drop)]
 pub struct Search {
     pub next: u8,
@@ -64,45 +66,28 @@ fn no_score() -> Score
 }
 
 // The best pose of a version as its score.
-fn score_by(version: u8, best: Best) -> Score
+fn score_by(version: u8, best: Pose) -> Score
     ensures { result ≡ score_by version best }
 {
-    let Best::Pose(agreement, corner, mirrored) = best else {
-        return no_score();
-    };
     Score {
         version: version,
-        agreement: agreement,
-        corner: corner,
-        mirrored: mirrored,
+        agreement: best.score,
+        corner: best.corner,
+        mirrored: best.reversed,
     }
 }
 
-// A list for the lumas of any version.
-fn luma_room() -> [f32; 1112]
-    ensures { 1112 ≡ length result }
-{
-    [0.0f32; 1112]
-}
-
-// A list for the marks of any version.
-fn mark_room() -> [bool; 1112]
-    ensures { 1112 ≡ length result }
-{
-    [false; 1112]
-}
-
 // The best pose of lumas, as many as a version has positions.
-fn pose_of(version: u8, lumas: &[f32]) -> Best
+fn pose_of(version: u8, lumas: &[f32]) -> Result<Pose, Refusal>
     requires version { IsVersion version }
     requires lumas_len { length lumas.now ≡ positions_of version }
-    ensures { result ≡ pose_of version lumas.now }
+    ensures { result ≡ Ok (pose_of version lumas.now) }
 {
-    let mut marks = mark_room();
+    let mut marks = [false; 1112];
     let n = lumas.len();
-    marks::classify::classify(version as u32, lumas, &mut marks[..n]);
-    let c = marks::correlate::correlate(version as u32, &marks[..n]);
-    c.best
+    marks::classify::classify(version as u32, lumas, &mut marks[..n])?;
+    let c = marks::correlate::correlate(version as u32, &marks[..n])?;
+    Ok(c.best)
 }
 
 // The ring of a version read under a transform: lumas, marks, the best pose.
@@ -111,13 +96,16 @@ fn read_ring(gray: &[u8], w: usize, h: usize, t: Transform, version: u8) -> Scor
     requires version { IsVersion version }
     ensures { result ≡ read_of gray.now w h t version }
 {
-    let VersionAnswer::Known(v) = Version::new(version as u32) else {
+    let Ok(v) = Version::new(version as u32) else {
         return no_score();
     };
-    let mut lumas = luma_room();
+    let mut lumas = [0.0f32; 1112];
     let n = v.positions();
     crate::lumas::ring_lumas(gray, w, h, t, v, &mut lumas[..n]);
-    score_by(version, pose_of(version, &lumas[..n]))
+    let Ok(best) = pose_of(version, &lumas[..n]) else {
+        return no_score();
+    };
+    score_by(version, best)
 }
 
 // A search with no version tried yet.
@@ -179,7 +167,7 @@ fn tried(gray: &[u8], w: usize, h: usize, g: Goal, s: Search) -> Search
     let scores = s.scores;
     let version = s.next;
     let side = Version::side_of(version);
-    let Mapped::Some(t) = crate::geometry::ring_transform(g.quad, side, g.lens) else {
+    let Some(t) = crate::geometry::ring_transform(g.quad, side, g.lens) else {
         return Search {
             next: version + 1,
             ended: false,
@@ -222,13 +210,11 @@ pub fn run(gray: &[u8], w: usize, h: usize, g: Goal) -> Search
     ensures held { ScoreRoom result }
 {
     let mut s = start();
-    let mut k = 0usize;
-    while k <= Version::MAX as usize {
+    for k in 0..=Version::MAX as usize {
         if s.ended {
             return s;
         }
         s = step(gray, w, h, g, s);
-        k += 1;
     }
     s
 }

@@ -8,8 +8,8 @@ use native.Mathlib.Omega.{arith}
 use lib.ListN.{length, length-append, set}
 use Rattle.laws.specs.Plane.{plane}
 use Rattle.regions.specs.Kept.{kept_count, kept_of}
-use Rattle.accept.specs.declared.Fixed.{Fixed}
-use Rattle.accept.specs.declared.Fixed.TheVariants.{At, NoFix}
+use Rattle.std.proofs.Common.{Option, Some, None}
+use Rattle.accept.specs.declared.Fix.{Fix}
 use Rattle.ring.specs.declared.quads.Trace.{Trace}
 use Rattle.finder.specs.Find.{try_of, trace_of}
 use Rattle.tag_list.specs.declared.tag.Tag.{Tag}
@@ -30,10 +30,10 @@ unfolding with_tag four_tags
 with-tag-is s t l =
     ap₂ (λ (n : ℕ) (q : List Tag). record { many = n; list = q }) (sym (length-append s (t ∷ []))) (padded-set 4 s t l)
 
-pub with-fix-is : (s : List Tag) (f : Fixed) → length s < 4 → with_fix (four_tags s) f ≡ four_tags (s ++ fix_tags f)
+pub with-fix-is : (s : List Tag) (f : Option Fix) → length s < 4 → with_fix (four_tags s) f ≡ four_tags (s ++ fix_tags f)
 unfolding with_fix fix_tags
-with-fix-is s (At f) l = with-tag-is s (tag_of f) l
-with-fix-is s NoFix l = ap four_tags (sym (append-nil s))
+with-fix-is s (Some f) l = with-tag-is s (tag_of f) l
+with-fix-is s None l = ap four_tags (sym (append-nil s))
 
 -- how many there are
 pub many_is : (s : List Tag) (t : Tags) → t ≡ four_tags s → t.many ≡ length s
@@ -41,10 +41,10 @@ unfolding four_tags
 many_is s t e = ap (λ (t : Tags). t.many) e
 
 -- ---- the tags of traces
-fix-few : (f : Fixed) → length (fix_tags f) ≤ 1
+fix-few : (f : Option Fix) → length (fix_tags f) ≤ 1
 unfolding fix_tags
-fix-few (At f) = omega arith
-fix-few NoFix = omega arith
+fix-few (Some f) = omega arith
+fix-few None = omega arith
 
 pub own-few : (f : ℕ → Trace) (n : ℕ) → length (own_tags f n) ≤ n
 unfolding own_tags

@@ -1,7 +1,6 @@
 -- What the inner functions of the list of tags keep. Definitions only. Assumes nothing.
-use Rattle.std.specs.Prelude.{ℕ, ◌+◌, cond, List, ◌≡◌, eqb, set}
-use Rattle.accept.specs.declared.Fixed.{Fixed}
-use Rattle.accept.specs.declared.Fixed.TheVariants.{At, NoFix}
+use Rattle.std.specs.Prelude.{ℕ, ◌+◌, cond, List, Option, Some, None, ◌≡◌, eqb, set}
+use Rattle.accept.specs.declared.Fix.{Fix}
 use Rattle.ring.specs.Trace.{first_of}
 use Rattle.ring.specs.declared.quads.Trace.{Trace}
 use Rattle.finder.specs.Find.{try_of, best_trace}
@@ -15,9 +14,9 @@ unfoldable pub with_tag : Tags → Tag → Tags
 with_tag s t = record { many = s.many + 1; list = set s.list s.many t }
 
 -- The same of a fix or none.
-unfoldable pub with_fix : Tags → Fixed → Tags
-with_fix s (At f) = with_tag s (tag_of f)
-with_fix s NoFix = s
+unfoldable pub with_fix : Tags → Option Fix → Tags
+with_fix s (Some f) = with_tag s (tag_of f)
+with_fix s None = s
 
 -- The trace that stands after try i, whose trace is t: the first stands whatever it is.
 unfoldable pub standing_of : Trace → Trace → ℕ → Trace

@@ -1,10 +1,10 @@
 -- The tags of a picture: which there are, where their corners lie, and what the entry answers. `gray` holds the picture's bytes, w and h
 -- are its sides. Definitions only. Assumes nothing.
-use Rattle.std.specs.Prelude.{ℕ, zero, suc, false, List, [], ◌∷◌, ◌++◌, Float, length}
+use Rattle.std.specs.Prelude.{ℕ, zero, suc, false, List, [], ◌∷◌, ◌++◌, Option, Some, None, Float, length}
 use Rattle.std.specs.Float.Ieee.{neg}
 use Rattle.ieee.specs.Constants.{0f}
 use Rattle.laws.specs.Plane.{plane}
-use Rattle.laws.specs.Said.{Said}
+use Rattle.laws.specs.Said.{Said, refuse, give}
 use Rattle.lcr_core.specs.Version.{side_of}
 use Rattle.regions.specs.Kept.{kept_count}
 use Rattle.transform.specs.Mapping.{applied}
@@ -13,15 +13,10 @@ use Rattle.hull.specs.declared.points.Point.{Point}
 use Rattle.hull.specs.declared.points.Quad.{Quad}
 use Rattle.fit.specs.F32.{◌⊕◌, whole_float, 3f}
 use Rattle.accept.specs.declared.Fix.{Fix}
-use Rattle.accept.specs.declared.Fixed.{Fixed}
-use Rattle.accept.specs.declared.Fixed.TheVariants.{At, NoFix}
 use Rattle.ring.specs.declared.quads.Trace.{Trace}
-use Rattle.ring.specs.Door.{outcome_said}
-use Rattle.ring.specs.declared.door.Outcome.TheVariants.{Given, Refused}
 use Rattle.finder.specs.Find.{try_of, trace_of}
 use Rattle.tag_list.specs.declared.tag.Tag.{Tag}
 use Rattle.tag_list.specs.declared.tag.Tags.{Tags}
-use Rattle.tag_list.specs.declared.Answer.{Answer}
 
 -- ---- a tag
 -- The place in the picture of a place (u, v) of module space.
@@ -42,9 +37,9 @@ tag_of f = record { version = f.version; agreement = f.agreement; mirrored = f.m
 
 -- ---- the tags of a picture
 -- The tag of a fix or none, as a list.
-unfoldable pub fix_tags : Fixed → List Tag
-fix_tags (At f) = tag_of f ∷ []
-fix_tags NoFix = []
+unfoldable pub fix_tags : Option Fix → List Tag
+fix_tags (Some f) = tag_of f ∷ []
+fix_tags None = []
 
 -- The tags of the first n traces of f, in order.
 unfoldable pub own_tags : (ℕ → Trace) → ℕ → List Tag
@@ -87,14 +82,7 @@ four_tags s = record { many = length s; list = padded 4 s }
 abbrev pub no_tags : Tags
 no_tags = four_tags []
 
--- A refusal by its number: no tags. The answer by the number of the first check that fails, 0 where none does.
-unfoldable pub tags_refused : ℕ → Answer
-tags_refused n = record { outcome = Refused n; tags = no_tags }
-
-unfoldable pub tags_by : ℕ → List ℕ → ℕ → ℕ → ℕ → Answer
-tags_by zero gray w h most = record { outcome = Given; tags = four_tags (tags_of gray w h most) }
-tags_by (suc n) gray w h most = tags_refused (suc n)
-
--- What an answer says: the tags.
-abbrev pub tags_said : Answer → Said Tags
-tags_said a = outcome_said a.outcome a.tags
+-- The answer by the number of the first check that fails, 0 where none does.
+unfoldable pub tags_by : ℕ → List ℕ → ℕ → ℕ → ℕ → Said Tags
+tags_by zero gray w h most = give (four_tags (tags_of gray w h most))
+tags_by (suc n) gray w h most = refuse (suc n)

@@ -117,12 +117,10 @@ pub(crate) fn sweep(
         best: ring::attempt::short_trace(0),
         tags: no_tags(),
     };
-    let mut i: usize = 0;
-    while i < n {
+    for i in 0..n {
         s = sweep_next(
             gray, w, h, levels, labels, k, most, i, s, points, straight, cand, buf,
         );
-        i += 1;
     }
     s
 }

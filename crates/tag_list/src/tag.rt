@@ -3,7 +3,7 @@ ghost use Rattle.std.specs.Prelude.{◌≡◌, ◌<◌};
 ghost use Rattle.tag_list.specs.Tags.{mapped_point, ring_corners, tag_of, no_tag, no_tags};
 ghost use Rattle.tag_list.specs.Inner.{with_tag, with_fix};
 
-use accept::{Fix, Fixed};
+use accept::Fix;
 use hull::points::{Point, Quad};
 use lcr_core::version::Version;
 use transform::Transform;
@@ -109,11 +109,11 @@ fn with_tag(s: Tags, t: Tag) -> Tags
 }
 
 // One tag more where there is a fix.
-pub(crate) fn with_fix(s: Tags, f: Fixed) -> Tags
+pub(crate) fn with_fix(s: Tags, f: Option<Fix>) -> Tags
     requires { s.many < 4 }
     ensures { result ≡ with_fix s f }
 {
-    let Fixed::At(x) = f else {
+    let Some(x) = f else {
         return s;
     };
     let t = tag_of(x);

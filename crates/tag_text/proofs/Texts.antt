@@ -11,6 +11,9 @@
 use Rattle.std.proofs.Common.{◌≡◌, ℕ, zero, suc, ◌+◌, ◌<◌, ◌≤◌, min, Bool, true, false, List, [], ◌∷◌, ◌++◌, length, get_or, drop, replicate, sym, refl, ap, ◌∙◌, append-nil, arith}
 use lib.Ieee.{Float, nan}
 use lib.ListN.{length-replicate}
+use Rattle.std.proofs.Common.{Result, Ok, Err}
+use Rattle.refusal.specs.Numbers.{number_of, said}
+use Rattle.refusal.specs.declared.Refusal.{Refusal}
 use Rattle.laws.specs.Fold.{joined}
 use Rattle.laws.specs.Lent.{Stored}
 use Rattle.laws.proofs.Joined.{joined-more}
@@ -18,15 +21,12 @@ use Rattle.laws.proofs.Stores.{stored-none, stored-append, stored-ext, stored-le
 use Rattle.text.specs.Text.{decimal, spaced, line_of, refused_word}
 use Rattle.hull.specs.declared.points.Point.{Point}
 use Rattle.hull.specs.declared.points.Quad.{Quad}
-use Rattle.ring.specs.declared.door.Outcome.{Outcome}
-use Rattle.ring.specs.declared.door.Outcome.TheVariants.{Given, Refused}
 use Rattle.tag_list.specs.Tags.{no_tag}
 use Rattle.tag_list.specs.declared.tag.Tag.{Tag}
 use Rattle.tag_list.specs.declared.tag.Tags.{Tags}
-use Rattle.tag_list.specs.declared.Answer.{Answer}
 use Rattle.tag_text.specs.Decimal.{fixed}
 use Rattle.tag_text.specs.Lines.{none_text, version_word, agreement_word, mirrored_word, yes_word, no_word, corners_word, end, yes_or_no}
-use Rattle.tag_text.specs.Lines.{point_text, corners_text, ring_text, pose_text, tag_line, tag_lines, some_lines, tags_text, outcome_text}
+use Rattle.tag_text.specs.Lines.{point_text, corners_text, ring_text, pose_text, tag_line, tag_lines, some_lines, tags_text}
 use Rattle.tag_text.specs.Lines.{answer_text, filled}
 
 -- ---- a tag
@@ -109,27 +109,27 @@ module _ (t : Tags) (n : ℕ) (is : n ≡ min t.many 4) where
       lines (suc n) some = unfold some_lines in refl
 
 -- ---- an answer
-pub refused-stored : {at a b e : ℕ} {l l' l'' l''' : List ℕ} (n : ℕ) → Stored at refused_word l l' a → Stored a (32 ∷ decimal n) l' l'' b
-    → Stored b end l'' l''' e → Stored at (line_of refused_word (n ∷ [])) l l''' e
-refused-stored n v u x =
-    stored-ext (refused_word ++ ((32 ∷ decimal n) ++ end)) (line_of refused_word (n ∷ [])) one (stored-append v (stored-append u x))
+pub refused-stored : {at a b e : ℕ} {l l' l'' l''' : List ℕ} (n m : ℕ) → n ≡ m → Stored at refused_word l l' a
+    → Stored a (32 ∷ decimal n) l' l'' b → Stored b end l'' l''' e → Stored at (line_of refused_word (m ∷ [])) l l''' e
+refused-stored n m same v u x =
+    stored-ext (refused_word ++ ((32 ∷ decimal n) ++ end)) (line_of refused_word (m ∷ []))
+    (one ∙ ap (λ (k : ℕ). line_of refused_word (k ∷ [])) same) (stored-append v (stored-append u x))
   where
     one : refused_word ++ ((32 ∷ decimal n) ++ end) ≡ line_of refused_word (n ∷ [])
     one = unfold line_of spaced in ap (λ (m : List ℕ). refused_word ++ (m ++ end)) (sym (append-nil (32 ∷ decimal n)))
 
-module _ {e : ℕ} {l l' : List ℕ} (a : Answer) where
-  pub given-text : a.outcome ≡ Given → Stored 0 (tags_text a.tags) l l' e → Stored 0 (answer_text a) l l' e
-  given-text z v = stored-ext (tags_text a.tags) (answer_text a) (given ∙ ap (λ (o : Outcome). outcome_text o a.tags) (sym z)) v
-    where
-      given : tags_text a.tags ≡ outcome_text Given a.tags
-      given = unfold outcome_text in refl
+module _ {e : ℕ} {l l' : List ℕ} (a : Result Tags Refusal) where
+  pub given-text : (t : Tags) → a ≡ Ok t → Stored 0 (tags_text t) l l' e → Stored 0 (answer_text (said a)) l l' e
+  unfolding answer_text
+  given-text t z v =
+      stored-ext (tags_text t) (answer_text (said a)) (ap (λ (r : Result Tags Refusal). answer_text (said r)) (sym z)) v
 
-  pub refused-text : (n : ℕ) → a.outcome ≡ Refused n → Stored 0 (line_of refused_word (n ∷ [])) l l' e → Stored 0 (answer_text a) l l' e
-  refused-text n z v =
-      stored-ext (line_of refused_word (n ∷ [])) (answer_text a) (refused ∙ ap (λ (o : Outcome). outcome_text o a.tags) (sym z)) v
-    where
-      refused : line_of refused_word (n ∷ []) ≡ outcome_text (Refused n) a.tags
-      refused = unfold outcome_text in refl
+  pub refused-text : (r : Refusal) → a ≡ Err r → Stored 0 (line_of refused_word (number_of r ∷ [])) l l' e
+      → Stored 0 (answer_text (said a)) l l' e
+  unfolding answer_text
+  refused-text r z v =
+      stored-ext (line_of refused_word (number_of r ∷ [])) (answer_text (said a))
+      (ap (λ (r : Result Tags Refusal). answer_text (said r)) (sym z)) v
 
 pub filled_is : {r : ℕ} {old new : List ℕ} (u : List ℕ) → old ≡ replicate 1024 0 → r ≤ 712 → Stored 0 u old new r
     → (new ≡ filled u) × ((r ≡ length u) × (r ≤ length new))

@@ -2,15 +2,13 @@
 -- Assumes nothing.
 use Rattle.std.specs.Prelude.{ℕ, zero, suc, min, Bool, cond, List, [], ◌∷◌, ◌++◌, length, drop, replicate, slice_index_or, Float}
 use Rattle.laws.specs.Fold.{joined}
+use Rattle.laws.specs.Said.{Said, refuse, none, give}
 use Rattle.text.specs.Text.{decimal, line_of, refused_word}
 use Rattle.hull.specs.declared.points.Point.{Point}
 use Rattle.hull.specs.declared.points.Quad.{Quad}
-use Rattle.ring.specs.declared.door.Outcome.{Outcome}
-use Rattle.ring.specs.declared.door.Outcome.TheVariants.{Given, Refused}
 use Rattle.tag_list.specs.Tags.{no_tag}
 use Rattle.tag_list.specs.declared.tag.Tag.{Tag}
 use Rattle.tag_list.specs.declared.tag.Tags.{Tags}
-use Rattle.tag_list.specs.declared.Answer.{Answer}
 use Rattle.tag_text.specs.Decimal.{fixed}
 
 -- ---- the words
@@ -85,13 +83,11 @@ some_lines list (suc n) = tag_lines list (suc n)
 unfoldable pub tags_text : Tags → List ℕ
 tags_text t = some_lines t.list (min t.many 4)
 
--- The answer's refusal, or its tags.
-unfoldable pub outcome_text : Outcome → Tags → List ℕ
-outcome_text Given t = tags_text t
-outcome_text (Refused n) t = line_of refused_word (n ∷ [])
-
-abbrev pub answer_text : Answer → List ℕ
-answer_text a = outcome_text a.outcome a.tags
+-- The answer's refusal, or its tags; the entry says nothing else.
+unfoldable pub answer_text : Said Tags → List ℕ
+answer_text (give t) = tags_text t
+answer_text (refuse n) = line_of refused_word (n ∷ [])
+answer_text none = []
 
 -- 1,024 bytes that begin with a text, zeros after it.
 abbrev pub filled : List ℕ → List ℕ

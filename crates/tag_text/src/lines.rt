@@ -1,15 +1,15 @@
 // The lines of tags. Each function has room for the longest numbers of their types, not only for
 // those that a tag has.
-ghost use Rattle.std.specs.Prelude.{◌≡◌, ◌+◌, ◌*◌, ◌<◌, ◌≤◌, min, [], ◌∷◌, length};
+ghost use Rattle.std.specs.Prelude.{◌≡◌, ◌+◌, ◌*◌, ◌≤◌, min, [], ◌∷◌, length};
 ghost use Rattle.laws.specs.Lent.{Stored};
+ghost use Rattle.refusal.specs.Numbers.{number_of, said};
 ghost use Rattle.text.specs.Text.{decimal, line_of, refused_word};
 ghost use Rattle.tag_text.specs.Lines.{yes_or_no, point_text, corners_text, ring_text, pose_text};
 ghost use Rattle.tag_text.specs.Lines.{tag_line, tag_lines, tags_text, answer_text};
 
 use crate::decimal::put_fixed;
 use hull::points::{Point, Quad};
-use ring::door::Outcome;
-use tag_list::Answer;
+use refusal::Refusal;
 use tag_list::tag::{Tag, Tags};
 use text::{put_byte, put_spaced, put_word};
 
@@ -103,10 +103,8 @@ fn put_list(out: &mut [u8], at: usize, list: [Tag; 4], n: usize) -> usize
     ensures most { result ≤ at + 178 * n }
 {
     let mut to = at;
-    let mut k: usize = 0;
-    while k < n {
+    for k in 0..n {
         to = put_tag(out, to, list[k]);
-        k += 1;
     }
     to
 }
@@ -115,10 +113,7 @@ fn put_list(out: &mut [u8], at: usize, list: [Tag; 4], n: usize) -> usize
 fn at_most_four(n: usize) -> usize
     ensures { result ≡ min n 4 }
 {
-    if n < 4 {
-        return n;
-    }
-    4
+    n.min(4)
 }
 
 // The lines of the tags, or `none`.
@@ -136,26 +131,24 @@ fn put_tags(out: &mut [u8], t: Tags) -> usize
 }
 
 // The line of a refusal.
-pub(crate) fn put_refused(out: &mut [u8], at: usize, n: u32) -> usize
+pub(crate) fn put_refused(out: &mut [u8], at: usize, r: Refusal) -> usize
     requires { at + 19 ≤ length out.old }
-    ensures out { Stored at (line_of refused_word (n ∷ [])) out.old out.new result }
+    ensures out { Stored at (line_of refused_word (number_of r ∷ [])) out.old out.new result }
     ensures most { result ≤ at + 19 }
 {
     let a = put_word(out, at, b"refused");
-    let b = put_count(out, a, n);
+    let b = put_count(out, a, r.number());
     put_byte(out, b, b'\n')
 }
 
 // The text of an answer.
-pub(crate) fn put_text(out: &mut [u8], a: Answer) -> usize
+pub(crate) fn put_text(out: &mut [u8], a: Result<Tags, Refusal>) -> usize
     requires { 712 ≤ length out.old }
-    ensures out { Stored 0 (answer_text a) out.old out.new result }
+    ensures out { Stored 0 (answer_text (said a)) out.old out.new result }
     ensures most { result ≤ 712 }
 {
-    let outcome = a.outcome;
-    let tags = a.tags;
-    match outcome {
-        Outcome::Given => put_tags(out, tags),
-        Outcome::Refused(n) => put_refused(out, 0, n),
+    match a {
+        Ok(t) => put_tags(out, t),
+        Err(r) => put_refused(out, 0, r),
     }
 }

@@ -16,7 +16,8 @@ use Rattle.region_outline.specs.Region.{need_of}
 use Rattle.finder.specs.Find.{check_find}
 use Rattle.tray.specs.Input.{FileAt}
 use Rattle.tag_list.specs.Tags.{tags_by}
-use Rattle.tag_list.specs.declared.Answer.{Answer}
+use Rattle.laws.specs.Said.{Said}
+use Rattle.tag_list.specs.declared.tag.Tags.{Tags}
 use Rattle.tags.specs.Taken.{TagsPicture}
 
 module _ (w h : ℕ) (wide : w ≤ 2048) (high : h ≤ 2048) where
@@ -61,7 +62,7 @@ part-taken s w h at f = record {
 }
 
 -- the answer with lists of these lengths
-pub answer-taken : (gray : List ℕ) (w h : ℕ) → TagsPicture w h (length gray) → (r : Answer) {a b c d e f g : ℕ} → 16384 ≡ a → 65536 ≡ b → 65536
+pub answer-taken : (gray : List ℕ) (w h : ℕ) → TagsPicture w h (length gray) → (r : Said Tags) {a b c d e f g : ℕ} → 16384 ≡ a → 65536 ≡ b → 65536
     ≡ c
     → 16384 ≡ d → 16384 ≡ e → 16384 ≡ f → 16384 ≡ g → r ≡ tags_by (check_find w h (length gray) a b c d e f g 64) gray w h 64
     → r ≡ tags_by 0 gray w h 64

@@ -4,13 +4,14 @@
 #![tactic(auto)]
 
 ghost use Rattle.std.specs.Prelude.{◌≡◌, ◌≤◌, length};
+ghost use Rattle.refusal.specs.Numbers.{said};
 ghost use Rattle.word_bytes.specs.Inner.{HasPlaces};
 ghost use Rattle.tag_list.specs.Tags.{tags_by};
 ghost use Rattle.tag_text.specs.Lines.{answer_text, filled};
 ghost use Rattle.tags.specs.Taken.{TagsPicture};
 
-use pgm::File;
-use tag_list::Answer;
+use refusal::Refusal;
+use tag_list::tag::Tags;
 use tag_text::Printed;
 
 // The numbers of standard output and standard error.
@@ -47,9 +48,9 @@ fn point_room() -> [f32; 16384]
 }
 
 // The tags of a picture of w × h bytes, of any version. No check refuses it.
-fn tags_of(gray: &[u8], w: usize, h: usize) -> Answer
+fn tags_of(gray: &[u8], w: usize, h: usize) -> Result<Tags, Refusal>
     requires { TagsPicture w h (length gray.now) }
-    ensures { result ≡ tags_by 0 gray.now w h 64 }
+    ensures { said result ≡ tags_by 0 gray.now w h 64 }
 {
     let mut levels = level_room();
     let mut labels = cell_room();
@@ -97,10 +98,10 @@ fn print(p: Printed)
     }
 }
 
-// Writes to standard error what the number of a refusal means.
-fn explain(n: u32) {
+// Writes to standard error what a refusal means.
+fn explain(r: Refusal) {
     let mut line = [0u8; 127];
-    let len = tag_text::meaning::put_refusal(&mut line, n);
+    let len = tag_text::meaning::put_refusal(&mut line, r);
     io::write_all(STDERR_FILENO, &line[..len]);
 }
 
@@ -109,13 +110,13 @@ fn read(room: &mut [u8])
     requires { 4198400 ≤ length room.old }
 {
     match input::read_file(room, 2048) {
-        File::Refused(n) => {
-            print(tag_text::refused(n));
-            explain(n);
+        Err(r) => {
+            print(tag_text::refused(r));
+            explain(r);
         }
-        File::Picture(w, h, at) => {
-            let end = at + w * h;
-            print(text_of(&room[at..end], w, h));
+        Ok(p) => {
+            let end = p.at + p.width * p.height;
+            print(text_of(&room[p.at..end], p.width, p.height));
         }
     }
 }

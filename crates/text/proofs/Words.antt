@@ -1,24 +1,25 @@
--- A word stored byte by byte: word_none, word_more. A number stored digit by digit: one-stored, more-stored, last_end, last_stored, hex-end,
+-- A word copied into a part of a list: word_stored. A number stored digit by digit: one-stored, more-stored, last_end, last_stored, hex-end,
 -- hex-stored. Assumes nothing.
-use mathlib.Core.Path.{◌≡◌, sym, ap, ◌∙◌}
+use mathlib.Core.Path.{◌≡◌, refl, sym, ap, ◌∙◌}
 use mathlib.Core.List.{List, [], ◌∷◌, ◌++◌}
 use Prim.Native.Nat.{ℕ, suc, ◌+◌, ◌-◌, ◌/◌, ◌%◌, ◌≤◌, ◌<◌}
-use native.Mathlib.Numerals.{add-one}
 use native.Mathlib.Omega.{arith}
-use lib.ListN.{length, get_or, take}
-use lib.Seq.{take-suc}
+use Rattle.std.proofs.Common.{length, take, drop, append_assoc}
+use lib.Seq.{sets-eq, drop-drop}
+use borrow.Rule.Slice.PartMut.{put_mid}
 use Rattle.laws.specs.Lent.{Stored}
 use Rattle.laws.proofs.Stores.{stored-none, stored-append, stored-ext}
 use Rattle.text.specs.Text.{decimal, last_digits, hex_digit, hex}
 use Rattle.text.proofs.Decimals.{decimal-one, decimal-more, last_none, last_more, hex-none, hex-more}
 
-pub word_none : (at : ℕ) (w l : List ℕ) → Stored at (take 0 w) l l at
-word_none at w l = stored-none at l
-
-pub word_more : {at r r' : ℕ} {l l' l'' : List ℕ} (w : List ℕ) (i : ℕ) → i < length w → Stored at (take i w) l l' r
-    → Stored r (get_or w i 0 ∷ []) l' l'' r' → Stored at (take (i + 1) w) l l'' r'
-word_more w i b v u = stored-ext (take i w ++ (get_or w i 0 ∷ [])) (take (i + 1) w) (sym (rw (add-one i) (take-suc w i 0 b)))
-    (stored-append v u)
+-- a word put in the place of a part
+pub word_stored : (at m : ℕ) (w part l : List ℕ) → at + length w ≤ length l → m ≡ length w → part ≡ w
+    → Stored at w l (put_mid at m l part) (at + length w)
+word_stored at m w part l room em ew =
+    record {
+      list = rw (em, ew, drop-drop (length w) at l) (sym (sets-eq w l at room ∙ append_assoc (take at l) w (drop (at + length w) l)));
+      next = refl;
+    }
 
 -- ---- numbers stored digit by digit
 pub one-stored : {at r : ℕ} {l l' : List ℕ} (n d : ℕ) → n < 10 → d ≡ 48 + n → Stored at (d ∷ []) l l' r → Stored at (decimal n) l l' r

@@ -20,13 +20,9 @@ pub fn put_word(out: &mut [u8], at: usize, word: &[u8]) -> usize
     requires { at + length word.now ≤ length out.old }
     ensures { Stored at word.now out.old out.new result }
 {
-    let mut to = at;
-    let mut i = 0;
-    while i < word.len() {
-        to = put_byte(out, to, word[i]);
-        i += 1;
-    }
-    to
+    let end = at + word.len();
+    out[at..end].copy_from_slice(word);
+    end
 }
 
 // The digit of a number below ten.
@@ -82,6 +78,7 @@ fn hex_digit(d: u64) -> u8
 }
 
 // So many hex digits of a number, its last ones.
+// Kept: beside `put_digits`, since `hex` and `last_digits` of specs/Text.antt are two definitions.
 pub fn put_hex(out: &mut [u8], at: usize, digits: usize, n: u64) -> usize
     requires { at + digits ≤ length out.old }
     ensures { Stored at (hex digits n) out.old out.new result }

@@ -3,21 +3,17 @@
 --     the lens: place, lens_none, lens-some
 --     a place's pixel: flat-is, applied-is
 --     the transform: radial-is
---     four corners: corner-is, quad_is
+--     four corners: quad_is
 --     lists of numbers that are equal one by one: cons-cong
 -- Assumes nothing.
-use Rattle.std.proofs.Common.{◌≡◌, ℕ, ◌+◌, ◌*◌, ◌<◌, ◌≤◌, Bool, true, false, cond, ◌&&◌, T, ltb, List, [], ◌∷◌, ◌++◌, length, ℤ, negsuc, sym, refl, ap, ◌∙◌, arith, ltb→lt, lt→ltb, drop_of_length-le}
+use Rattle.std.proofs.Common.{◌≡◌, ℕ, ◌+◌, ◌*◌, ◌<◌, Bool, true, false, cond, ◌&&◌, T, ltb, List, ◌∷◌, Option, ℤ, negsuc, sym, refl, ap, ◌∙◌, arith, ltb→lt, lt→ltb}
 use mathlib.Core.Bool.{false≢true}
-use lib.Seq.{sets}
 use lib.Ieee.Bits.{is_true}
 use lib.Ieee.{nan, inf, fin, up, down, neg, Float, binary64, add, sub, div, lt, eq, of_bits}
-use Rattle.laws.proofs.Stores.{laid-is}
 use Rattle.ieee.specs.Narrow.{narrow}
 use Rattle.ieee.specs.Ops.{abs}
 use Rattle.math.specs.Equations.{solution}
-use Rattle.math.specs.declared.Found.{Found}
-use Rattle.math.specs.declared.Solution.{Solution}
-use Rattle.transform.specs.Mapping.{zero, corner_rows, matrix, numbers, from_solution, from_quad, with_radial, guarded, plane_place, bent, four_rounds, about_centre, through_lens, flat_place, rounded, applied}
+use Rattle.transform.specs.Mapping.{zero, matrix, numbers, from_solution, from_quad, with_radial, guarded, plane_place, bent, four_rounds, about_centre, through_lens, flat_place, rounded, applied}
 use Rattle.ieee.specs.Constants.{1d, 1e-9}
 use Rattle.transform.specs.declared.Transform.{Transform}
 use Rattle.transform.specs.declared.Pixel.{Pixel}
@@ -122,25 +118,17 @@ radial-is t cx cy k a b c e f g =
     ap (λ (z : Float). with_radial t z b c) e ∙ ap (λ (z : Float). with_radial t cx z c) f ∙ ap (with_radial t cx cy) g
 
 -- ---- four corners
--- the equations of a corner, stored into all places of a list
-pub corner-is : (u v x y : Float) (l : List Float) → length l ≡ 16 → sets l 0 (corner_rows u v x y []) ≡ corner_rows u v x y []
-corner-is u v x y l e =
-    let room : 16 ≤ length l = omega arith in
-    let over : length l ≤ 16 = omega arith in
-    laid-is (corner_rows u v x y []) l room ∙ ap (λ (r : List Float). corner_rows u v x y [] ++ r) (drop_of_length-le l over)
-
 matrix-numbers : (s d : List Float) → matrix (numbers s) (numbers d) ≡ matrix s d
 unfolding matrix
 matrix-numbers s d = refl
 
-pub quad_is : (s d a u b : List Float) (r : Solution) (f : Found) → u ≡ numbers s → b ≡ numbers d → a ≡ matrix u b → r ≡ solution 8 a b
-    → r.found ≡ f → from_solution f r.x ≡ from_quad s d
+pub quad_is : (s d a u b : List Float) (r : Option (List Float)) → u ≡ numbers s → b ≡ numbers d → a ≡ matrix u b → r ≡ solution 8 a b
+    → from_solution r ≡ from_quad s d
 unfolding from_quad
-quad_is s d a u b r f eu eb ea er ef =
+quad_is s d a u b r eu eb ea er =
     let e : a ≡ matrix s d =
     ea ∙ ap (λ (z : List Float). matrix z b) eu ∙ ap (matrix (numbers s)) eb ∙ matrix-numbers s d in
-    ap (λ (z : Found). from_solution z r.x) (sym ef)
-    ∙ ap (λ (z : Solution). from_solution z.found z.x)
+    ap from_solution
     (er ∙ ap (λ (z : List Float). solution 8 z b) e ∙ ap (solution 8 (matrix s d)) eb)
 
 -- ---- lists of numbers that are equal one by one

@@ -1,21 +1,16 @@
 -- The transform from module space to pixels, by rules 26 and 27: eight f64 coefficients and three f64 lens numbers,
 -- any f32 corners. Definitions only. Assumes nothing.
-use Rattle.std.specs.Prelude.{cond, List, [], ◌∷◌, from_bits, Float}
+use Rattle.std.specs.Prelude.{cond, List, [], ◌∷◌, from_bits, Float, Option, Some, None}
 use Rattle.std.specs.Float.{nan, binary64}
 use Rattle.std.specs.Float.Ieee.{add, sub, mul, div, neg, lt, eq}
 use Rattle.ieee.specs.Narrow.{narrow}
 use Rattle.ieee.specs.Ops.{abs}
 use Rattle.ieee.specs.Constants.{1e-9, 1d}
-use Rattle.laws.specs.Said.{Said, none, give}
 use Rattle.math.specs.Lists.{number_at}
 use Rattle.math.specs.Equations.{solution}
-use Rattle.math.specs.declared.Found.{Found}
-use Rattle.math.specs.declared.Found.TheVariants.{Refused, Nothing, Solved}
 use Rattle.transform.specs.declared.Transform.{Transform}
 use Rattle.transform.specs.declared.Pixel.{Pixel}
 use Rattle.transform.specs.declared.Place.{Place}
-use Rattle.transform.specs.declared.Mapped.{Mapped}
-use Rattle.transform.specs.declared.Mapped.TheVariants.{None, Some}
 
 -- +0
 abbrev pub zero : Float
@@ -58,20 +53,14 @@ homography x = record {
 }
 
 -- the transform of a solution, or none
-abbrev pub from_solution : Found → List Float → Mapped
-from_solution (Refused k) x = None
-from_solution Nothing x = None
-from_solution Solved x = Some (homography x)
+abbrev pub from_solution : Option (List Float) → Option Transform
+from_solution (Some x) = Some (homography x)
+from_solution None = None
 
 -- the transform that takes the corners s to the corners d, or none
-unfoldable pub from_quad : List Float → List Float → Mapped
+unfoldable pub from_quad : List Float → List Float → Option Transform
 unfolding matrix solution
-from_quad s d = let r = solution 8 (matrix s d) (numbers d) in from_solution r.found r.x
-
--- what it says: the transform, or none
-abbrev pub mapped_said : Mapped → Said Transform
-mapped_said None = none
-mapped_said (Some t) = give t
+from_quad s d = from_solution (solution 8 (matrix s d) (numbers d))
 
 -- ---- the lens
 -- the same coefficients with a lens

@@ -32,22 +32,24 @@ fn put_corner(a: &mut [f64], u: f64, v: f64, x: f64, y: f64)
 {
     let nx = -x;
     let ny = -y;
-    a[0] = u;
-    a[1] = v;
-    a[2] = 1.0;
-    a[3] = 0.0;
-    a[4] = 0.0;
-    a[5] = 0.0;
-    a[6] = nx * u;
-    a[7] = nx * v;
-    a[8] = 0.0;
-    a[9] = 0.0;
-    a[10] = 0.0;
-    a[11] = u;
-    a[12] = v;
-    a[13] = 1.0;
-    a[14] = ny * u;
-    a[15] = ny * v;
+    a.copy_from_slice(&[
+        u,
+        v,
+        1.0,
+        0.0,
+        0.0,
+        0.0,
+        nx * u,
+        nx * v,
+        0.0,
+        0.0,
+        0.0,
+        u,
+        v,
+        1.0,
+        ny * u,
+        ny * v,
+    ]);
 }
 
 // The matrix of the eight equations of four corners.

@@ -5,7 +5,7 @@
 mod corners;
 
 ghost use Rattle.std.specs.Prelude.{◌≡◌};
-ghost use Rattle.transform.specs.Mapping.{homography, from_quad, with_radial, guarded, flat_place, bent, through_lens, applied, no_pixel};
+ghost use Rattle.transform.specs.Mapping.{homography, from_quad, with_radial, guarded, flat_place, bent, through_lens, applied, no_pixel, eleven_of};
 
 // Eight coefficients and three lens numbers, all f64. The pixel of (u, v) is
 // (m0 u + m1 v + m2, m3 u + m4 v + m5) / (m6 u + m7 v + 1), then bent about (cx, cy) by kappa.
@@ -26,11 +26,15 @@ pub struct Transform {
     pub kappa: f64,
 }
 
-// A transform, or none.
-#[derive(Clone, Copy)]
-pub enum Mapped {
-    None,
-    Some(Transform),
+// A transform as its eleven numbers: the coefficients, then the lens.
+impl From<Transform> for [f64; 11] {
+    ghost from_gives = { λ t s. s ≡ eleven_of t };
+
+    fn from(t: Transform) -> [f64; 11] {
+        [
+            t.m0, t.m1, t.m2, t.m3, t.m4, t.m5, t.m6, t.m7, t.cx, t.cy, t.kappa,
+        ]
+    }
 }
 
 // A place in the picture, in pixels.
@@ -66,21 +70,15 @@ fn coefficients(x: [f64; 8]) -> Transform
     }
 }
 
-// The transform that takes four corners to four others; x and y of each alternate.
-pub fn from_quad(src: [f32; 8], dst: [f32; 8]) -> Mapped
+// The transform that takes four corners to four others, where there is one; x and y of each alternate.
+pub fn from_quad(src: [f32; 8], dst: [f32; 8]) -> Option<Transform>
     ensures { result ≡ from_quad src dst }
 {
     let s = corners::wide8(src);
     let mut b = corners::wide8(dst);
     let mut a = corners::equations_of(s, b);
-    let h = math::equations::run(&mut a, &mut b, 8);
-    let f = h.found;
-    let x = h.x;
-    match f {
-        math::Found::Solved => Mapped::Some(coefficients(x)),
-        math::Found::Nothing => Mapped::None,
-        math::Found::Refused(_) => Mapped::None,
-    }
+    let x = math::equations::run(&mut a, &mut b, 8)?;
+    Some(coefficients(x))
 }
 
 // A divisor kept away from 0.
@@ -164,17 +162,10 @@ impl Transform {
         ensures { result ≡ with_radial self cx cy kappa }
     {
         Transform {
-            m0: self.m0,
-            m1: self.m1,
-            m2: self.m2,
-            m3: self.m3,
-            m4: self.m4,
-            m5: self.m5,
-            m6: self.m6,
-            m7: self.m7,
             cx: corners::wide(cx),
             cy: corners::wide(cy),
             kappa: corners::wide(kappa),
+            ..self
         }
     }
 

@@ -20,7 +20,7 @@ use Rattle.pgm.specs.Form.{has_letters, file_width, file_height, file_maximum, f
 use Rattle.pgm.specs.Doors.{check_header, check_pixels}
 use Rattle.pgm.specs.Steps.{begun, steps_over}
 use Rattle.pgm.specs.Head.{check_head, pixels_answer}
-use Rattle.pgm.specs.declared.File.TheVariants.{Refused}
+use Rattle.laws.specs.Said.{refuse}
 use Rattle.pgm.specs.declared.steps.Reading.{Reading}
 use Rattle.pgm.specs.declared.steps.Stage.TheVariants.{Whole}
 use Rattle.pgm.proofs.Beside.{kept, Outcome}
@@ -87,7 +87,7 @@ module _ (most : ℕ) (few : most ≤ 4096) (s : List ℕ) (r : Reading) (letter
   abbrev answer : ℕ → Type 0
   answer n = n ≡ check_head r (sides_up_to most r.width r.height 0)
 
-  pub file-refused : (n : ℕ) → answer n → (n ≡ 0 → ⊥) → Refused n ≡ file_to most s
+  pub file-refused : (n : ℕ) → answer n → (n ≡ 0 → ⊥) → refuse n ≡ file_to most s
   unfolding file_to check_file_to
   file-refused n e off = found-off gate (check_pixels s) (file_width s) (file_height s) (file_start s) n (e ∙ same) off
 

@@ -5,7 +5,7 @@
 --   input-number                   the number of a refusal: at most 15
 --   check-refused, check-found     the number by the answer
 -- Assumes nothing.
-use mathlib.Core.Path.{◌≡◌, refl}
+use mathlib.Core.Path.{◌≡◌, refl, ap}
 use mathlib.Core.Bool.{Bool, true, false, cond, ◌&&◌}
 use mathlib.Core.List.{List}
 use Prim.Native.Nat.{ℕ, zero, suc, ◌+◌, ◌*◌, ◌≤◌}
@@ -18,8 +18,9 @@ use Rattle.laws.proofs.Bools.{and_right}
 use Rattle.picture_checks.specs.Picture.{is_side}
 use Rattle.picture_checks.proofs.Checked.{check-step, side-in}
 use Rattle.pgm.specs.Form.{has_letters, has_form, file_width, file_height, file_maximum, file_start}
-use Rattle.pgm.specs.Doors.{check_header, check_pixels, found}
-use Rattle.pgm.specs.declared.File.TheVariants.{Picture, Refused}
+use Rattle.pgm.specs.Doors.{image, check_header, check_pixels, found}
+use Rattle.pgm.specs.declared.Image.{Image}
+use Rattle.laws.specs.Said.{give, refuse}
 use Rattle.pgm.proofs.Heads.{header-step}
 use Rattle.tray.specs.Record.{pair_at, four_at, width_of, height_of, is_tray_side, check_record}
 use Rattle.tray.specs.Input.{FileAt, check_file_to, file_to, check_tray_file, check_input, input_width, input_height, input_start, input_answer}
@@ -83,23 +84,30 @@ pub record Same (n w h at w' h' at' : ℕ) : Type 0 where
   pub h-is : h ≡ h'
   pub at-is : at ≡ at'
 
-same : (n w h at w' h' at' : ℕ) → found n w' h' at' ≡ Picture w h at → Same n w h at w' h' at'
+same : (n w h at w' h' at' : ℕ) → found n w' h' at' ≡ give (image w h at) → Same n w h at w' h' at'
 unfolding found
-same zero w h at w' h' at' e = record { no-refusal = refl; w-is = cc; h-is = cc; at-is = cc }
+same zero w h at w' h' at' e =
+    let i : image w h at ≡ image w' h' at' = cc in
+    record {
+      no-refusal = refl;
+      w-is = ap (λ (q : Image). q.width) i;
+      h-is = ap (λ (q : Image). q.height) i;
+      at-is = ap (λ (q : Image). q.at) i;
+    }
 same (suc n) w h at w' h' at' e = absurd (let z : ◌≡◌ {A = ℕ} 0 1 = cc in omega arith)
 
-pub file-picture : (most : ℕ) (s : List ℕ) (w h at : ℕ) → file_to most s ≡ Picture w h at → FileAt most s w h at
+pub file-picture : (most : ℕ) (s : List ℕ) (w h at : ℕ) → file_to most s ≡ give (image w h at) → FileAt most s w h at
 unfolding file_to
 file-picture most s w h at e =
     let q = same (check_file_to most s) w h at (file_width s) (file_height s) (file_start s) e in
     rw (q.w-is, q.h-is, q.at-is) (file-at most s q.no-refusal)
 
-pub picture-same : (s : List ℕ) (w h at : ℕ) → input_answer s ≡ Picture w h at
+pub picture-same : (s : List ℕ) (w h at : ℕ) → input_answer s ≡ give (image w h at)
     → Same (check_input s) w h at (input_width s) (input_height s) (input_start s)
 unfolding input_answer
 picture-same s w h at e = same (check_input s) w h at (input_width s) (input_height s) (input_start s) e
 
-pub input-picture : (s : List ℕ) (w h at : ℕ) → input_answer s ≡ Picture w h at → InputAt s w h at
+pub input-picture : (s : List ℕ) (w h at : ℕ) → input_answer s ≡ give (image w h at) → InputAt s w h at
 input-picture s w h at e =
     let q = picture-same s w h at e in rw (q.w-is, q.h-is, q.at-is) (input-at s q.no-refusal)
 
@@ -136,12 +144,12 @@ input-le s = go (has_letters s)
     go true = file-le s
     go false = record-le s
 
-refused-is : (k n w h at : ℕ) → found k w h at ≡ Refused n → (n ≡ k) × (n ≡ 0 → ⊥)
+refused-is : (k n w h at : ℕ) → found k w h at ≡ refuse n → (n ≡ k) × (n ≡ 0 → ⊥)
 unfolding found
 refused-is zero n w h at e = absurd (let z : ◌≡◌ {A = ℕ} 0 1 = cc in omega arith)
 refused-is (suc k) n w h at e = let z : n ≡ suc k = cc in (z, λ y. omega (arith, z, y))
 
-pub input-number : (s : List ℕ) (n : ℕ) → input_answer s ≡ Refused n → (n ≡ check_input s) × ((n ≡ 0 → ⊥) × (n ≤ 15))
+pub input-number : (s : List ℕ) (n : ℕ) → input_answer s ≡ refuse n → (n ≡ check_input s) × ((n ≡ 0 → ⊥) × (n ≤ 15))
 unfolding input_answer
 input-number s n e =
     let q = refused-is (check_input s) n (input_width s) (input_height s) (input_start s) e in

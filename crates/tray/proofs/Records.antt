@@ -13,8 +13,8 @@ use borrow.Author.Tests.{leb-true, eqb-true, le-leb, lt-leb, eq-eqb, ne_eqb}
 use Rattle.laws.specs.Check.{or_refuse}
 use Rattle.laws.proofs.Bools.{and_left, and_right}
 use Rattle.picture_checks.proofs.Checked.{check-step}
-use Rattle.pgm.specs.Doors.{found}
-use Rattle.pgm.specs.declared.File.TheVariants.{Picture, Refused}
+use Rattle.pgm.specs.Doors.{image, found}
+use Rattle.laws.specs.Said.{give, refuse}
 use Rattle.pgm.proofs.Gates.{refused-is}
 use Rattle.tray.specs.Record.{pair_at, four_at, width_of, height_of, is_tray_side, check_record, is_head, asked}
 
@@ -166,9 +166,9 @@ pub area_small : (w h : ℕ) {a b : Bool} → a ≡ is_tray_side w → a ≡ tru
 area_small w h e x f y = small-area w h (side-in w (sym e ∙ x)).1 (side-in h (sym f ∙ y)).1
 
 -- ---- its answer
-pub refused-record : (s : List ℕ) (n : ℕ) → n ≡ check_record s → (n ≡ 0 → ⊥) → Refused n ≡ found (check_record s) (width_of s) (height_of s) 10
+pub refused-record : (s : List ℕ) (n : ℕ) → n ≡ check_record s → (n ≡ 0 → ⊥) → refuse n ≡ found (check_record s) (width_of s) (height_of s) 10
 refused-record s n e off = refused-is n (width_of s) (height_of s) 10 off ∙ ap (λ (k : ℕ). found k (width_of s) (height_of s) 10) e
 
 pub found-record : (s : List ℕ) {w h : ℕ} → check_record s ≡ 0 → w ≡ width_of s → h ≡ height_of s
-    → Picture w h 10 ≡ found (check_record s) (width_of s) (height_of s) 10
-found-record s {w} {h} e x y = ap₂ (λ (a b : ℕ). Picture a b 10) x y ∙ unfold found in rw e
+    → give (image w h 10) ≡ found (check_record s) (width_of s) (height_of s) 10
+found-record s {w} {h} e x y = ap₂ (λ (a b : ℕ). give (image a b 10)) x y ∙ unfold found in rw e

@@ -3,11 +3,12 @@
 -- nothing.
 use Rattle.std.specs.Prelude.{cond, List, ℕ, ◌+◌, ◌*◌, ◌≤◌, leb, eqb, length, take, drop}
 use Rattle.laws.specs.Check.{or_refuse}
+use Rattle.laws.specs.Said.{Said}
 use Rattle.pgm.specs.Form.{has_letters, file_width, file_height, file_start}
 use Rattle.pgm.specs.Doors.{check_header, check_pixels, found}
 use Rattle.pgm.specs.Steps.{begun, steps_over}
 use Rattle.pgm.specs.Head.{check_head}
-use Rattle.pgm.specs.declared.File.{File}
+use Rattle.pgm.specs.declared.Image.{Image}
 use Rattle.pgm.specs.declared.steps.Reading.{Reading}
 use Rattle.tray.specs.Record.{width_of, height_of, check_record, asked}
 
@@ -24,7 +25,7 @@ unfoldable pub check_file_to : ℕ → List ℕ → ℕ
 check_file_to most s = check_header s (sides_up_to most (file_width s) (file_height s) (check_pixels s))
 
 -- The answer for the number of a refusal, or the sides and the place of the pixels.
-unfoldable pub file_to : ℕ → List ℕ → File
+unfoldable pub file_to : ℕ → List ℕ → Said Image
 file_to most s = found (check_file_to most s) (file_width s) (file_height s) (file_start s)
 
 -- The tray list's.
@@ -52,7 +53,7 @@ unfoldable pub input_pixels : List ℕ → List ℕ
 input_pixels s = take (input_width s * input_height s) (drop (input_start s) s)
 
 -- The answer for the number of a refusal, or the sides and the place of the pixels.
-unfoldable pub input_answer : List ℕ → File
+unfoldable pub input_answer : List ℕ → Said Image
 input_answer s = found (check_input s) (input_width s) (input_height s) (input_start s)
 
 -- ---- how much is read

@@ -2,18 +2,19 @@
 #![tactic(auto)]
 
 ghost use Rattle.std.specs.Prelude.{◌≡◌};
+ghost use Rattle.refusal.specs.Numbers.{number_in, said};
 ghost use Rattle.tray.specs.Input.{check_input, input_answer};
 
-use pgm::File;
+use pgm::Image;
+use refusal::Refusal;
 
 pub mod claims;
 pub mod file;
 pub mod record;
 
-// The sides of an input's picture and the place of its pixels, or the number of a refusal. Bytes
-// after the pixels do not matter.
-pub fn find(s: &[u8]) -> File
-    ensures { result ≡ input_answer s.now }
+// The sides of an input's picture and the place of its pixels. Bytes after the pixels do not matter.
+pub fn find(s: &[u8]) -> Result<Image, Refusal>
+    ensures { said result ≡ input_answer s.now }
 {
     if pgm::has_letters(s) {
         return file::find(s, 160);
@@ -21,12 +22,10 @@ pub fn find(s: &[u8]) -> File
     record::find(s)
 }
 
-// The number of an input's refusal, or 0.
-pub fn check(s: &[u8]) -> u32
-    ensures { result ≡ check_input s.now }
+// The check of an input.
+pub fn check(s: &[u8]) -> Result<(), Refusal>
+    ensures { number_in result ≡ check_input s.now }
 {
-    match find(s) {
-        File::Refused(n) => n,
-        File::Picture(_, _, _) => 0,
-    }
+    find(s)?;
+    Ok(())
 }

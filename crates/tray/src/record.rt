@@ -1,9 +1,11 @@
 // The record: four-byte length of the rest, two-byte kind 1, two-byte width and height, pixels.
 ghost use Rattle.std.specs.Prelude.{◌≡◌, ◌+◌, ◌*◌, ◌<◌, ◌≤◌, length};
+ghost use Rattle.refusal.specs.Numbers.{number_in, said};
 ghost use Rattle.pgm.specs.Doors.{found};
 ghost use Rattle.tray.specs.Record.{pair_at, four_at, width_of, height_of, is_tray_side, check_record, asked};
 
-use pgm::File;
+use pgm::Image;
+use refusal::Refusal;
 
 fn byte(b: u8) -> usize
     ensures { (result ≡ b) × (result < 256) }
@@ -61,28 +63,29 @@ pub fn pixels(head: &[u8]) -> usize
     w * h
 }
 
-// 13 where the record is no picture of the tray list, else 0.
-fn check(s: &[u8]) -> u32
-    ensures { result ≡ check_record s.now }
+// The check of a record: Record where it is no picture of the tray list.
+fn check(s: &[u8]) -> Result<(), Refusal>
+    ensures { number_in result ≡ check_record s.now }
 {
     let n = pixels(s);
     if n == 0 {
-        return 13;
+        return Err(Refusal::Record);
     }
     if s.len() < 10 + n {
-        return 13;
+        return Err(Refusal::Record);
     }
-    0
+    Ok(())
 }
 
 // The picture of a record.
-pub(crate) fn find(s: &[u8]) -> File
-    ensures { result ≡ found (check_record s.now) (width_of s.now)
+pub(crate) fn find(s: &[u8]) -> Result<Image, Refusal>
+    ensures { said result ≡ found (check_record s.now) (width_of s.now)
         (height_of s.now) 10 }
 {
-    let n = check(s);
-    if n != 0 {
-        return File::Refused(n);
-    }
-    File::Picture(pair_at(s, 6), pair_at(s, 8), 10)
+    check(s)?;
+    Ok(Image {
+        width: pair_at(s, 6),
+        height: pair_at(s, 8),
+        at: 10,
+    })
 }

@@ -6,6 +6,7 @@ use mathlib.Core.Path.{◌≡◌, refl, sym, ap, ◌∙◌, subst}
 use mathlib.Core.List.{List, [], ◌∷◌, map}
 use Prim.Native.Nat.{ℕ, zero, suc, ◌+◌, ◌*◌, ◌≤◌, ◌<◌}
 use native.Mathlib.Omega.{arith}
+use Rattle.std.proofs.Common.{Option, Some, None}
 use lib.ListN.{length, take, drop}
 use lib.Seq.{take_at}
 use lib.Ieee.{Float}
@@ -16,8 +17,6 @@ use Rattle.hull.specs.Points.{many}
 use Rattle.hull.specs.Hull.{hull_of, hull_floats}
 use Rattle.hull.specs.Quad.{quad_of, quad_floats, values_of}
 use Rattle.hull.specs.declared.points.Quad.{Quad}
-use Rattle.hull.specs.declared.points.Corners.{Corners}
-use Rattle.hull.specs.declared.points.Corners.TheVariants.{Found, NoQuad}
 use Rattle.text.specs.Text.{spaced, line_of, quad_word, none_word}
 use Rattle.traylist_text.specs.Listing.{outline_word}
 use Rattle.laws.specs.Lent.{Stored, laid}
@@ -64,35 +63,35 @@ region-short w h r t a b (suc (suc (suc (suc (suc (suc i)))))) l = absurd (omega
 module _ (q : Quad) (n1 n2 n3 n4 n5 n6 n7 n8 : ℕ) (e1 : n1 ≡ cut_double q.a.x) (e2 : n2 ≡ cut_double q.a.y) (e3 : n3 ≡ cut_double q.b.x)
     (e4 : n4 ≡ cut_double q.b.y) (e5 : n5 ≡ cut_double q.c.x) (e6 : n6 ≡ cut_double q.c.y) (e7 : n7 ≡ cut_double q.d.x)
     (e8 : n8 ≡ cut_double q.d.y) where
-  corners-are : n1 ∷ n2 ∷ n3 ∷ n4 ∷ n5 ∷ n6 ∷ n7 ∷ n8 ∷ [] ≡ map cut_double (values_of (Found q))
+  corners-are : n1 ∷ n2 ∷ n3 ∷ n4 ∷ n5 ∷ n6 ∷ n7 ∷ n8 ∷ [] ≡ map cut_double (values_of (Some q))
   unfolding values_of
   corners-are = rw (e1, e2, e3, e4, e5, e6, e7, e8)
 
   pub corners-text : {at r : ℕ} {l l' : List ℕ} → Stored at (line_of quad_word (n1 ∷ n2 ∷ n3 ∷ n4 ∷ n5 ∷ n6 ∷ n7 ∷ n8 ∷ [])) l l' r
-      → Stored at (corners_line (values_of (Found q))) l l' r
+      → Stored at (corners_line (values_of (Some q))) l l' r
   unfolding corners_line values_of
   corners-text v =
-      stored-ext (line_of quad_word (n1 ∷ n2 ∷ n3 ∷ n4 ∷ n5 ∷ n6 ∷ n7 ∷ n8 ∷ [])) (line_of quad_word (map cut_double (values_of (Found q))))
+      stored-ext (line_of quad_word (n1 ∷ n2 ∷ n3 ∷ n4 ∷ n5 ∷ n6 ∷ n7 ∷ n8 ∷ [])) (line_of quad_word (map cut_double (values_of (Some q))))
       (ap (line_of quad_word) corners-are) v
 
-  pub corners-short : NearPoints (values_of (Found q)) → Short (n1 ∷ n2 ∷ n3 ∷ n4 ∷ n5 ∷ n6 ∷ n7 ∷ n8 ∷ [])
-  corners-short near = subst (λ (l : List ℕ). Short l) (sym corners-are) (near-doubled (values_of (Found q)) near)
+  pub corners-short : NearPoints (values_of (Some q)) → Short (n1 ∷ n2 ∷ n3 ∷ n4 ∷ n5 ∷ n6 ∷ n7 ∷ n8 ∷ [])
+  corners-short near = subst (λ (l : List ℕ). Short l) (sym corners-are) (near-doubled (values_of (Some q)) near)
 
-module _ (r : Corners) (p : List Float) (v : values_of r ≡ quad_floats p) where
-  pub none-line : {at e : ℕ} {l l' : List ℕ} → r ≡ NoQuad → Stored at (line_of none_word []) l l' e → Stored at (corners_line (quad_floats
+module _ (r : Option Quad) (p : List Float) (v : values_of r ≡ quad_floats p) where
+  pub none-line : {at e : ℕ} {l l' : List ℕ} → r ≡ None → Stored at (line_of none_word []) l l' e → Stored at (corners_line (quad_floats
       p)) l l' e
   none-line z w =
       stored-ext (line_of none_word []) (corners_line (quad_floats p)) (none ∙ ap corners_line (sym (ap values_of z) ∙ v)) w
     where
-      none : line_of none_word [] ≡ corners_line (values_of NoQuad)
+      none : line_of none_word [] ≡ corners_line (values_of None)
       none = unfold corners_line values_of in refl
 
-  pub found-line : {at e : ℕ} {l l' : List ℕ} (q : Quad) → r ≡ Found q → Stored at (corners_line (values_of (Found q))) l l' e
+  pub found-line : {at e : ℕ} {l l' : List ℕ} (q : Quad) → r ≡ Some q → Stored at (corners_line (values_of (Some q))) l l' e
       → Stored at (corners_line (quad_floats p)) l l' e
   found-line q z w =
-      stored-ext (corners_line (values_of (Found q))) (corners_line (quad_floats p)) (ap corners_line (sym (ap values_of z) ∙ v)) w
+      stored-ext (corners_line (values_of (Some q))) (corners_line (quad_floats p)) (ap corners_line (sym (ap values_of z) ∙ v)) w
 
-  pub found-near : (q : Quad) → r ≡ Found q → NearPoints p → NearPoints (values_of (Found q))
+  pub found-near : (q : Quad) → r ≡ Some q → NearPoints p → NearPoints (values_of (Some q))
   found-near q z near = subst (λ (l : List Float). NearPoints l) (sym v ∙ ap values_of z) (near-points p near (quad_of p (many p)))
 
 -- ---- the lines of an outline

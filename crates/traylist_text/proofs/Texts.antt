@@ -10,15 +10,19 @@ use lib.ListN.{length, get_or, take, drop, replicate, length-take, length-drop, 
 use Rattle.laws.specs.Plane.{Plane, plane}
 use Rattle.labels.specs.Cells.{groups_of}
 use Rattle.regions.specs.Kept.{kept_count}
-use Rattle.picture.specs.Door.{check_grids, answer_by, picture_answer}
+use Rattle.picture.specs.Door.{answer_by, picture_answer}
 use Rattle.regions.specs.Regions.{no_region, region, kept_regions}
 use Rattle.regions.specs.declared.answer.Region.{Region}
 use Rattle.regions.specs.declared.answer.Kept.{Kept}
-use Rattle.picture.specs.declared.answer.PictureAnswer.{PictureAnswer}
+use Rattle.std.proofs.Common.{Result, Ok}
+use Rattle.refusal.specs.Numbers.{said}
+use Rattle.refusal.specs.declared.Refusal.{Refusal}
+use Rattle.refusal.proofs.Numbers.{said-give}
 use Rattle.laws.specs.Fold.{joined}
 use Rattle.laws.proofs.Joined.{joined-more}
 use Rattle.text.specs.Text.{line_of, refused_word}
-use Rattle.pgm.specs.declared.File.TheVariants.{Picture, Refused}
+use Rattle.pgm.specs.Doors.{image}
+use Rattle.laws.specs.Said.{give, refuse}
 use Rattle.tray.specs.Input.{input_pixels, input_answer}
 use Rattle.tray.proofs.Inputs.{picture-same, input-picture, input-number}
 use Rattle.traylist_text.specs.Listing.{regions_word, region_lines, first_lines, picture_text, text_by, text_of, filled}
@@ -122,19 +126,21 @@ module _ (s : List ℕ) (w h : ℕ) (t : TrayPicture s w h) where
         count-four p w h,
       )
 
-taken : (a : PictureAnswer) (n : ℕ) (k : Kept) → a ≡ answer_by n k → n ≡ 0 → (a.refused ≡ 0) × (a.regions ≡ k)
-taken a n k e z =
-    let q = e ∙ ap (λ (m : ℕ). answer_by m k) z in
-    (ap (λ (x : PictureAnswer). x.refused) q, ap (λ (x : PictureAnswer). x.regions) q)
-
-pub picture-taken : (s : List ℕ) (w h : ℕ) → TrayPicture s w h → (a : PictureAnswer) → a ≡ picture_answer s w h 100 400 400
-    → (a.refused ≡ 0) × (a.regions ≡ kept_regions (plane w s) w h)
+-- the picture door never refuses it
+pub picture-taken : (s : List ℕ) (w h : ℕ) → TrayPicture s w h → (a : Result Kept Refusal) → said a ≡ picture_answer s w h 100 400 400
+    → a ≡ Ok (kept_regions (plane w s) w h)
 picture-taken s w h t a e =
-    taken a (check_grids w h (length s) 100 400 400) (kept_regions (plane w s) w h) e
-    (picture-passes s w h t 100 400 400 (omega arith) (omega arith) (omega arith))
+    said-give a (kept_regions (plane w s) w h)
+    (e ∙ ap (λ (n : ℕ). answer_by n (kept_regions (plane w s) w h))
+    (picture-passes s w h t 100 400 400 (omega arith) (omega arith) (omega arith)))
+
+-- the regions in its answer
+pub picture-kept : (s : List ℕ) (w h : ℕ) → TrayPicture s w h → (a : Result Kept Refusal) → said a ≡ picture_answer s w h 100 400 400
+    → (k : Kept) → a ≡ Ok k → k ≡ kept_regions (plane w s) w h
+picture-kept s w h t a e k f = let g = picture-taken s w h t a e in cc
 
 -- ---- the input
-pub text-refused : (s : List ℕ) (n : ℕ) → input_answer s ≡ Refused n → line_of refused_word (n ∷ []) ≡ text_of s
+pub text-refused : (s : List ℕ) (n : ℕ) → input_answer s ≡ refuse n → line_of refused_word (n ∷ []) ≡ text_of s
 unfolding text_of
 text-refused s n e = let q = input-number s n e in refused n q.1.0 ∙ ap (λ (m : ℕ). text_by m s) q.0
   where
@@ -142,13 +148,13 @@ text-refused s n e = let q = input-number s n e in refused n q.1.0 ∙ ap (λ (m
     refused zero z = absurd (z refl)
     refused (suc n) z = unfold text_by in refl
 
-pub refused-short : (s : List ℕ) (n : ℕ) → input_answer s ≡ Refused n → (n < 100000) × (length (line_of refused_word (n ∷ [])) ≤ 512)
+pub refused-short : (s : List ℕ) (n : ℕ) → input_answer s ≡ refuse n → (n < 100000) × (length (line_of refused_word (n ∷ [])) ≤ 512)
 refused-short s n e =
     let few : n < 100000 = omega (arith, (input-number s n e).1.1) in
     (few, omega (arith, line-short refused_word (n ∷ []) (one-short n few)))
 
 -- the pixels of an input as a part of it
-module _ (s : List ℕ) (w h at : ℕ) (e : input_answer s ≡ Picture w h at) where
+module _ (s : List ℕ) (w h at : ℕ) (e : input_answer s ≡ give (image w h at)) where
   abbrev pub part_of : List ℕ
   part_of = take (at + w * h - at) (drop at s)
 

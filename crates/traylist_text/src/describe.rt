@@ -71,14 +71,11 @@ fn all_regions(
     ensures { Stored at (first_lines (plane w s.now) w h k.kept) out.old
         out.new result }
 {
-    let kept = k.kept;
     let list = k.list;
     let mut to = at;
-    let mut i: usize = 0;
-    while i < kept {
+    for i in 0..k.kept {
         let r = list[i];
         to = region_lines(s, w, h, levels, labels, r, out, to);
-        i += 1;
     }
     to
 }
@@ -93,8 +90,8 @@ pub(crate) fn picture_text(s: &[u8], w: usize, h: usize, out: &mut [u8]) -> usiz
     let mut levels = [0u8; 100];
     let mut labels = [0u32; 400];
     let mut stack = [0u32; 400];
-    let a = picture::picture(s, w, h, &mut levels, &mut labels, &mut stack);
-    let k = a.regions;
+    let found = picture::picture(s, w, h, &mut levels, &mut labels, &mut stack);
+    let k = found.unwrap();
     let next = line(out, 0, b"regions", &[k.all as u32, k.kept as u32]);
     all_regions(s, w, h, &levels, &labels, k, out, next)
 }

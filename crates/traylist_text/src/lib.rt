@@ -5,8 +5,6 @@
 ghost use Rattle.std.specs.Prelude.{◌≡◌, ◌≤◌, length};
 ghost use Rattle.traylist_text.specs.Listing.{text_of, filled};
 
-use pgm::File;
-
 pub mod claims;
 mod describe;
 mod lines;
@@ -26,14 +24,11 @@ pub fn listing(input: &[u8]) -> Printed
 {
     let mut bytes = [0u8; 512];
     let len = match tray::find(input) {
-        File::Refused(n) => lines::line(&mut bytes, 0, b"refused", &[n]),
-        File::Picture(w, h, at) => {
-            let end = at + w * h;
-            describe::picture_text(&input[at..end], w, h, &mut bytes)
+        Err(r) => lines::line(&mut bytes, 0, b"refused", &[r.number()]),
+        Ok(found) => {
+            let end = found.at + found.width * found.height;
+            describe::picture_text(&input[found.at..end], found.width, found.height, &mut bytes)
         }
     };
-    Printed {
-        bytes: bytes,
-        len: len,
-    }
+    Printed { bytes, len }
 }

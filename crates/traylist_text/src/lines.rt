@@ -1,12 +1,11 @@
 // Lines of the listing.
-ghost use Rattle.std.specs.Prelude.{◌≡◌, [], ◌+◌, ◌*◌, ◌<◌, ◌≤◌, length};
+ghost use Rattle.std.specs.Prelude.{◌≡◌, [], ◌+◌, ◌*◌, ◌≤◌, length, Some};
 ghost use Rattle.hull.specs.Quad.{quad_floats, values_of};
-ghost use Rattle.hull.specs.declared.points.Corners.TheVariants.{Found};
 ghost use Rattle.text.specs.Text.{line_of, spaced};
 ghost use Rattle.laws.specs.Lent.{Stored};
 ghost use Rattle.traylist_text.specs.Inner.{Short, NearPoints, cut_double, corners_line};
 
-use hull::points::{Corners, Quad};
+use hull::points::Quad;
 use text::{put_byte, put_word};
 
 // Numbers below 100,000, a space before each.
@@ -16,10 +15,8 @@ fn put_numbers(out: &mut [u8], at: usize, ns: &[u32]) -> usize
     ensures { Stored at (spaced ns.now) out.old out.new result }
 {
     let mut to = at;
-    let mut i = 0;
-    while i < ns.len() {
-        to = text::put_spaced(out, to, ns[i] as usize);
-        i += 1;
+    for n in ns {
+        to = text::put_spaced(out, to, *n as usize);
     }
     to
 }
@@ -45,9 +42,9 @@ fn doubled(x: f32) -> u32
 
 // The line of the corners of a quad, doubled.
 fn corners(q: Quad, out: &mut [u8], at: usize) -> usize
-    requires near_points { NearPoints (values_of (Found q)) }
+    requires near_points { NearPoints (values_of (Some q)) }
     requires at_in_bounds { at + 53 ≤ length out.old }
-    ensures { Stored at (corners_line (values_of (Found q))) out.old out.new result }
+    ensures { Stored at (corners_line (values_of (Some q))) out.old out.new result }
 {
     let a = q.a;
     let b = q.b;
@@ -73,7 +70,7 @@ pub(crate) fn quad_line(p: &[f32], out: &mut [u8], at: usize) -> usize
     ensures { Stored at (corners_line (quad_floats p.now)) out.old
         out.new result }
 {
-    let Corners::Found(q) = hull::quad(p) else {
+    let Some(q) = hull::quad(p) else {
         return line(out, at, b"quad none", &[]);
     };
     corners(q, out, at)

@@ -155,7 +155,7 @@ checked W H s t c r room at fit =
 
 -- a region that was answered
 region-inside : (W H : ℕ) (s : List ℕ) → Taken 4096 W H s → (c : Pictured s (16 * W) (16 * H)) (i : ℕ)
-    → i < c.answer.regions.kept → Inside (region_of s (16 * W) (16 * H) c i) (16 * W) (16 * H)
+    → i < c.regions.kept → Inside (region_of s (16 * W) (16 * H) c i) (16 * W) (16 * H)
 region-inside W H s t c i l =
     let w = 16 * W in
     let h = 16 * H in
@@ -169,7 +169,7 @@ region-inside W H s t c i l =
     subst (λ (q : Region). Inside q w h) (sym (region-is s w h c i k)) (inside p w h i r)
 
 outlines : (W H : ℕ) (s : List ℕ) → Taken 4096 W H s → (c : Pictured s (16 * W) (16 * H)) (i room : ℕ)
-    → i < c.answer.regions.kept
+    → i < c.regions.kept
     → 4 * ((region_of s (16 * W) (16 * H) c i).x1 - (region_of s (16 * W) (16 * H) c i).x0
     + ((region_of s (16 * W) (16 * H) c i).y1 - (region_of s (16 * W) (16 * H) c i).y0)) ≤ room
     → checked_for s (16 * W) (16 * H) c (region_of s (16 * W) (16 * H) c i) room ≡ 0
@@ -198,7 +198,7 @@ points-up s w h c r at lw lh q t =
     (omega (arith, k.0, lw), omega (arith, k.1, lh))
 
 wholes : (W H : ℕ) (s : List ℕ) → Taken 4096 W H s → (c : Pictured s (16 * W) (16 * H)) (i : ℕ)
-    → i < c.answer.regions.kept → (o : Outlined s (16 * W) (16 * H) c (region_of s (16 * W) (16 * H) c i))
+    → i < c.regions.kept → (o : Outlined s (16 * W) (16 * H) c (region_of s (16 * W) (16 * H) c i))
     → WholeAccepted (numbers_listed o.answer o.list)
 wholes W H s t c i l o =
     let w = 16 * W in

@@ -5,7 +5,7 @@
 --     by-floats                  all of these of a picture and of the moved one
 --     marks-moved                the eight counts of moved marks
 -- Assumes nothing.
-use mathlib.Core.Path.{◌≡◌, refl, sym, ap, ap₂, ◌∙◌, subst}
+use mathlib.Core.Path.{◌≡◌, refl, sym, ap, ap₂, ◌∙◌}
 use mathlib.Core.Logic.{◌↔◌}
 use mathlib.Core.Bool.{Bool, true, false, cond}
 use mathlib.Core.List.{List, map, reverse}
@@ -24,16 +24,17 @@ use Rattle.hull.specs.Points.{many, pt_of, pts_of, floats_of}
 use Rattle.hull.specs.Hull.{hull_of, hull_floats, hull_points}
 use Rattle.hull.specs.Door.{vertices_after}
 use Rattle.hull.specs.Quad.{quad_points, quad_floats, values_of}
-use Rattle.hull.specs.declared.Hulled.{Hulled}
-use Rattle.hull.specs.declared.Hulled.TheVariants.{Vertices}
-use Rattle.hull.specs.declared.points.Corners.{Corners}
-use Rattle.hull.specs.declared.points.Corners.TheVariants.{Found, NoQuad}
+use Rattle.std.proofs.Common.{Option, Some, None, Ok}
+use Rattle.std.proofs.lemmas.Option.{none-some}
+use Rattle.laws.specs.Said.{Said, give}
+use Rattle.refusal.specs.Numbers.{said}
+use Rattle.refusal.proofs.Numbers.{said-give}
+use Rattle.hull.specs.declared.points.Quad.{Quad}
 use Rattle.lcr_core.specs.Version.{IsVersion, positions_of}
 use Rattle.marks.specs.Pose.{corner_to, reversed_to, agreement, counts_of}
-use Rattle.marks.specs.Doors.{correlate_answer, marked_pose, counts_beside}
-use Rattle.marks.specs.declared.correlate.Best.{Best}
+use Rattle.marks.specs.Doors.{correlate_answer, pose_and_counts}
 use Rattle.marks.proofs.PosesMoved.{poses-moved}
-use Rattle.turned.specs.Calls.{HullCall, count_of, vertices_of, QuadCall, CorrelateCall}
+use Rattle.turned.specs.Calls.{HullCall, count_of, vertices_of, QuadCall, CorrelateCall, counts_in}
 use Rattle.turned.specs.Outlines.{ShapesAlike, ByFloats}
 use Rattle.turned.specs.Doors.{count_at, MarkDoorMoved}
 use Rattle.hull.proofs.Floats.{many-floats, hull-floats, quad-floats, length-floats}
@@ -41,8 +42,11 @@ use Rattle.hull.proofs.Floats.{many-floats, hull-floats, quad-floats, length-flo
 -- ---- vertices
 
 module _ (L : List (ℕ × ℕ)) (l : List Float) (e : l ≡ floats_of L) (k : HullCall l) where
-  answered : k.answer ≡ Vertices (length (hull_of l (many l)))
-  answered = k.answer-is ∙ rw (le-leb (length l) (length k.lent) k.accepted)
+  told : said k.answer ≡ give (length (hull_of l (many l)))
+  told = k.answer-is ∙ rw (le-leb (length l) (length k.lent) k.accepted)
+
+  answered : k.answer ≡ Ok (length (hull_of l (many l)))
+  answered = said-give k.answer (length (hull_of l (many l))) told
 
   pub count-is : count_of k.answer ≡ length (hull_points L)
   unfolding hull_points
@@ -54,7 +58,7 @@ module _ (L : List (ℕ × ℕ)) (l : List Float) (e : l ≡ floats_of L) (k : H
   pub vertices-is : vertices_of l k ≡ floats_of (hull_points L)
   vertices-is =
       ap₂ (λ (n : ℕ) (x : List Float). take (2 * n) x) count-is
-      (k.list-is ∙ ap (λ (h : Hulled). vertices_after h l k.lent) answered ∙ ap (λ (x : List Float). laid x k.lent) vertices)
+      (k.list-is ∙ ap (λ (h : Said ℕ). vertices_after h l k.lent) told ∙ ap (λ (x : List Float). laid x k.lent) vertices)
       ∙ take_at (floats_of (hull_points L)) (drop (length (floats_of (hull_points L))) k.lent) (2 * length (hull_points L))
       (length-floats (hull_points L))
     where
@@ -86,20 +90,13 @@ as_many m w h L L' r =
 
 -- ---- none
 
-none-empty : (a : Corners) (L : List (ℕ × ℕ)) → values_of a ≡ floats_of L → (a ≡ NoQuad → length L ≡ 0) × (length L ≡ 0 → a ≡ NoQuad)
+none-empty : (a : Option Quad) (L : List (ℕ × ℕ)) → values_of a ≡ floats_of L → (a ≡ None → length L ≡ 0) × (length L ≡ 0 → a ≡ None)
 unfolding values_of
-none-empty (Found q) L e = (λ n. absurd (apart n), λ n. absurd (omega (arith, n, ap length e, length-floats L)))
-  where
-    found : Corners → Type 0
-    found (Found q) = Unit {0}
-    found NoQuad = ⊥
+none-empty (Some q) L e = (λ n. absurd (none-some q (sym n)), λ n. absurd (omega (arith, n, ap length e, length-floats L)))
+none-empty None L e = (λ n. omega (arith, ap length e, length-floats L), λ n. refl)
 
-    apart : Found q ≡ NoQuad → ⊥
-    apart n = subst found n tt
-none-empty NoQuad L e = (λ n. omega (arith, ap length e, length-floats L), λ n. refl)
-
-pub none_both : (a a' : Corners) (L L' : List (ℕ × ℕ)) → values_of a ≡ floats_of L → values_of a' ≡ floats_of L' → length L' ≡ length L
-    → (a ≡ NoQuad) ↔ (a' ≡ NoQuad)
+pub none_both : (a a' : Option Quad) (L L' : List (ℕ × ℕ)) → values_of a ≡ floats_of L → values_of a' ≡ floats_of L' → length L' ≡ length L
+    → (a ≡ None) ↔ (a' ≡ None)
 none_both a a' L L' e e' same =
     let z = none-empty a L e in
     let z' = none-empty a' L' e' in
@@ -129,13 +126,13 @@ by-floats m w h L L' l l' e e' shapes k k' q q' = record {
 
 -- ---- marks
 
-accepted : (v : ℕ) → IsVersion v → (marks : List Bool) → length marks ≡ positions_of v → correlate_answer v marks ≡ marked_pose v marks
+accepted : (v : ℕ) → IsVersion v → (marks : List Bool) → length marks ≡ positions_of v → correlate_answer v marks ≡ give (pose_and_counts v marks)
 accepted v is marks e = rw (le-leb 1 v is.least, le-leb v 64 is.greatest, eq-eqb (length marks) (positions_of v) e)
 
 counts-are : (v : ℕ) → IsVersion v → (marks : List Bool) → length marks ≡ positions_of v → (c : CorrelateCall v marks)
-    → c.answer.counts ≡ counts_of v marks
+    → counts_in c.answer ≡ counts_of v marks
 counts-are v is marks e c =
-    c.counts-is ∙ ap (λ (b : Best). counts_beside b v marks) (c.best-is ∙ accepted v is marks e)
+    ap counts_in (said-give c.answer (pose_and_counts v marks) (c.answer-is ∙ accepted v is marks e))
 
 at-pose : (v : ℕ) (marks : List Bool) (r : ℕ) (reversed : Bool) → r < 4 → count_at (counts_of v marks) r reversed ≡ agreement v marks r reversed
 at-pose v marks zero false l = refl

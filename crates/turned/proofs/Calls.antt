@@ -1,27 +1,22 @@
 -- What an accepted call of the picture door and of the outline door leaves and answers, by the contracts' definitions.
---     no-refusal                    a number 0 was answered only where no check refuses
+--     none-refused                  regions were answered only where no check refuses
 --     regions-is, grid-at, label-at the regions answered, and the thresholds and labels left
 --     grid-room, label-room         the lists left have a place for each cell
 --     region-is                     the i-th region answered
---     boundary-same                 boundary points by tests that agree in the picture
 --     points-is, listed-is          the points of the outline door for that region, and the numbers listed
 -- Assumes nothing.
 use mathlib.Core.Path.{◌≡◌, refl, sym, ap, ap₂, ◌∙◌, subst}
-use mathlib.Core.Bool.{Bool, true, false}
-use mathlib.Core.List.{List, ◌++◌, map}
-use Prim.Native.Nat.{ℕ, zero, suc, ◌+◌, ◌-◌, ◌*◌, ◌<◌, ◌≤◌}
+use mathlib.Core.List.{List}
+use Prim.Native.Nat.{ℕ, zero, suc, ◌*◌, ◌<◌, ◌≤◌}
 use native.Mathlib.Omega.{arith}
 use native.Mathlib.Nat.{mul_comm}
-use lib.Dec.{leb, eqb}
+use lib.Dec.{leb, eqb, lit<}
 use borrow.Author.Tests.{lt-ltb, leb-true}
 use lib.Ieee.{Float}
 use lib.ListN.{length, get_or, drop}
 use lib.Seq.{take_at}
 use Rattle.hull.proofs.Floats.{length-floats}
-use Rattle.laws.proofs.Joined.{joined-ext}
-use Rattle.laws.specs.Check.{or_refuse}
 use Rattle.laws.specs.Plane.{Plane, plane, drawn, rowwise, Alike}
-use Rattle.laws.specs.Move.{Box}
 use Rattle.laws.proofs.Folds.{length-written}
 use Rattle.laws.proofs.Planes.{plane-drawn}
 use Rattle.levels.specs.Level.{cells, level}
@@ -29,76 +24,63 @@ use Rattle.labels.specs.Cells.{cells8, cells_of, label_at}
 use Rattle.regions.specs.Kept.{kept_of, kept_count, kept_label}
 use Rattle.regions.specs.Boxes.{region_box}
 use Rattle.picture_checks.specs.Picture.{is_side}
+use Rattle.picture_checks.proofs.Checked.{check-step}
 use Rattle.regions.specs.Regions.{no_region, region, region_at, kept_regions}
 use Rattle.picture.specs.Door.{check_grids, answer_by, levels_after, labels_after}
 use Rattle.regions.specs.declared.answer.Kept.{Kept}
-use Rattle.picture.specs.declared.answer.PictureAnswer.{PictureAnswer}
+use Rattle.std.proofs.Common.{Result, Ok}
+use Rattle.laws.specs.Said.{give}
+use Rattle.refusal.specs.declared.Refusal.{Refusal}
+use Rattle.refusal.specs.Numbers.{number_in, said, answered}
+use Rattle.refusal.proofs.Numbers.{said-give}
 use Rattle.regions.specs.declared.answer.Region.{Region}
 use Rattle.laws.specs.Lent.{laid}
 use Rattle.hull.specs.Points.{floats_of}
-use Rattle.boundary.specs.Boundary.{member_of, is_member, member_at, on_row, on_column, row_points, column_points, rows_from, columns_from, boundary, outline_of}
-use Rattle.boundary.proofs.Runs.{edges-ext}
-use Rattle.boundary.proofs.Boundary.{Within}
+use Rattle.boundary.specs.Boundary.{member_of, is_member, member_at, outline_of}
+use Rattle.boundary.proofs.Boundary.{Within, boundary-same}
 use Rattle.boundary.proofs.Members.{member-lists}
-use Rattle.outline.specs.Door.{door_points, outline_by, list_after}
-use Rattle.outline.specs.declared.Answer.{Answer}
-use Rattle.outline.specs.declared.Answer.TheVariants.{Points}
+use Rattle.outline.specs.Door.{door_points, list_after}
 use Rattle.turned.specs.Calls.{Pictured, region_of, points_for, Outlined, numbers_listed}
 
 -- ---- the picture door
 
-never : (n : ℕ) → suc n ≡ 0 → ⊥
-never n e = omega arith
-
-no-refusal : (n : ℕ) (k : Kept) → (answer_by n k).refused ≡ 0 → (answer_by n k).regions ≡ k
-no-refusal zero k e = refl
-no-refusal (suc n) k e = absurd (never n e)
-
-none-refused : (n : ℕ) (k : Kept) → (answer_by n k).refused ≡ 0 → n ≡ 0
-none-refused zero k e = refl
-none-refused (suc n) k e = absurd (never n e)
+none-refused : (n : ℕ) (k l : Kept) → answer_by n k ≡ give l → (n ≡ 0) × (k ≡ l)
+none-refused zero k l e = (refl, cc)
+none-refused (suc n) k l e = cc
 
 -- what the checks say of the lent lists where none refuses
 fits : (w h bytes grid labels stack : ℕ) → check_grids w h bytes grid labels stack ≡ 0 → (cells w * cells h ≤ grid) × (cells_of w h ≤ labels)
 fits w h bytes grid labels stack e =
-    go (is_side w) (is_side h) (eqb bytes (w * h)) (leb (cells w * cells h) grid) refl (leb (cells_of w h) labels) refl
-    (leb (cells_of w h) stack) e
-  where
-    no : (n : ℕ) → n ≡ 0 → 0 < n → ⊥
-    no n z l = omega arith
-
-    go : (a b d f : Bool) → leb (cells w * cells h) grid ≡ f → (g : Bool) → leb (cells_of w h) labels ≡ g → (k : Bool)
-        → ◌≡◌ {A = ℕ} (or_refuse a 1 (or_refuse b 1 (or_refuse d 2 (or_refuse f 3 (or_refuse g 3 (or_refuse k 3 0)))))) 0
-        → (cells w * cells h ≤ grid) × (cells_of w h ≤ labels)
-    go false b d f ef g eg k z = absurd (no 1 z (omega arith))
-    go true false d f ef g eg k z = absurd (no 1 z (omega arith))
-    go true true false f ef g eg k z = absurd (no 2 z (omega arith))
-    go true true true false ef g eg k z = absurd (no 3 z (omega arith))
-    go true true true true ef false eg k z = absurd (no 3 z (omega arith))
-    go true true true true ef true eg k z = (leb-true (cells w * cells h) grid ef, leb-true (cells_of w h) labels eg)
+    let tall = check-step (is_side w) 1 _ (lit< tt) e in
+    let whole = check-step (is_side h) 1 _ (lit< tt) tall.1 in
+    let lists = check-step (eqb bytes (w * h)) 2 _ (lit< tt) whole.1 in
+    let a = check-step (leb (cells w * cells h) grid) 3 _ (lit< tt) lists.1 in
+    let b = check-step (leb (cells_of w h) labels) 3 _ (lit< tt) a.1 in
+    (leb-true (cells w * cells h) grid a.0, leb-true (cells_of w h) labels b.0)
 
 module _ (s : List ℕ) (w h : ℕ) (c : Pictured s w h) where
   abbrev number : ℕ
   number = check_grids w h (length s) (length c.lent-grid) (length c.lent-labels) (length c.lent-stack)
 
-  refused-is : (answer_by number (kept_regions (plane w s) w h)).refused ≡ 0
-  refused-is = sym (ap (λ (a : PictureAnswer). a.refused) c.answer-is) ∙ c.accepted
+  given : answer_by number (kept_regions (plane w s) w h) ≡ give c.regions
+  given = sym c.answer-is ∙ ap said c.accepted
 
-  pub regions-is : c.answer.regions ≡ kept_regions (plane w s) w h
-  regions-is =
-      ap (λ (a : PictureAnswer). a.regions) c.answer-is
-      ∙ no-refusal number (kept_regions (plane w s) w h) refused-is
+  accepted : number_in c.answer ≡ 0
+  accepted = ap number_in c.accepted
+
+  pub regions-is : c.regions ≡ kept_regions (plane w s) w h
+  regions-is = sym (none-refused number (kept_regions (plane w s) w h) c.regions given).1
 
   grid-is : c.grid ≡ drawn (cells w) (cells h) (level (plane w s) w h) c.lent-grid
-  grid-is = c.grid-is ∙ ap (λ (n : ℕ). levels_after n s w h c.lent-grid) c.accepted
+  grid-is = c.grid-is ∙ ap (λ (n : ℕ). levels_after n s w h c.lent-grid) accepted
 
   labels-is : c.labels ≡ drawn (cells8 w) (cells8 h) (label_at (plane w s) w h) c.lent-labels
-  labels-is = c.labels-is ∙ ap (λ (n : ℕ). labels_after n s w h c.lent-labels) c.accepted
+  labels-is = c.labels-is ∙ ap (λ (n : ℕ). labels_after n s w h c.lent-labels) accepted
 
   room : (cells w * cells h ≤ length c.lent-grid) × (cells_of w h ≤ length c.lent-labels)
   room =
       fits w h (length s) (length c.lent-grid) (length c.lent-labels) (length c.lent-stack)
-      (none-refused number (kept_regions (plane w s) w h) refused-is)
+      (none-refused number (kept_regions (plane w s) w h) c.regions given).0
 
   -- the lists left have a place for each cell
   pub grid-room : cells w * cells h ≤ length c.grid
@@ -148,27 +130,6 @@ pub region-is : (s : List ℕ) (w h : ℕ) (c : Pictured s w h) (i : ℕ) → i 
 region-is s w h c i l =
     ap (λ (k : Kept). get_or k.list i no_region) (regions-is s w h c) ∙ region-listed (plane w s) w h i l
 
--- ---- boundary points by tests that agree
-
-inside : (a e n i : ℕ) → e ≤ n → i < e - a → a + i < n
-inside a e n i l b = omega arith
-
-pub boundary-same : (k w h : ℕ) (t u : ℕ → ℕ → Bool) (b : Box) → Within b w h → ((x y : ℕ) → x < w → y < h → t x y ≡ u x y)
-    → boundary k t b ≡ boundary k u b
-unfolding boundary rows_from columns_from row_points column_points
-boundary-same k w h t u b within same =
-    ap₂ (λ (r s : List (ℕ × ℕ)). r ++ s)
-    (joined-ext (b.y1 - b.y0) (λ j. row_points k t b.x0 (b.x1 - b.x0) (b.y0 + j))
-    (λ j. row_points k u b.x0 (b.x1 - b.x0) (b.y0 + j))
-    (λ j lj. ap (map (on_row (2 * (b.y0 + j) + 1)))
-    (edges-ext k (b.x1 - b.x0) (λ i. t (b.x0 + i) (b.y0 + j)) (λ i. u (b.x0 + i) (b.y0 + j)) b.x0
-    (λ i li. same (b.x0 + i) (b.y0 + j) (inside b.x0 b.x1 w i within.wide li) (inside b.y0 b.y1 h j within.high lj)))))
-    (joined-ext (b.x1 - b.x0) (λ i. column_points k t b.y0 (b.y1 - b.y0) (b.x0 + i))
-    (λ i. column_points k u b.y0 (b.y1 - b.y0) (b.x0 + i))
-    (λ i li. ap (map (on_column (2 * (b.x0 + i) + 1)))
-    (edges-ext k (b.y1 - b.y0) (λ j. t (b.x0 + i) (b.y0 + j)) (λ j. u (b.x0 + i) (b.y0 + j)) b.y0
-    (λ j lj. same (b.x0 + i) (b.y0 + j) (inside b.x0 b.x1 w i within.wide li) (inside b.y0 b.y1 h j within.high lj)))))
-
 -- ---- the outline door
 
 pub points-is : (s : List ℕ) (w h : ℕ) (c : Pictured s w h) (i : ℕ) → i < kept_count (plane w s) w h
@@ -177,8 +138,8 @@ pub points-is : (s : List ℕ) (w h : ℕ) (c : Pictured s w h) (i : ℕ) → i 
 points-is s w h c i l within =
     ap (points_for s w h c) (region-is s w h c i l)
     ∙ unfold door_points member_at outline_of region in
-    boundary-same 4 w h (member_of (kept_label (plane w s) w h i) (plane w s) (plane (cells w) c.grid) (plane (cells8 w) c.labels))
-    (is_member (plane w s) w h (kept_label (plane w s) w h i)) (region_box (plane w s) w h (kept_label (plane w s) w h i)) within
+    boundary-same 4 w h (is_member (plane w s) w h (kept_label (plane w s) w h i))
+    (member_of (kept_label (plane w s) w h i) (plane w s) (plane (cells w) c.grid) (plane (cells8 w) c.labels)) (region_box (plane w s) w h (kept_label (plane w s) w h i)) within
     (member-lists (plane w s) w h (kept_label (plane w s) w h i) (plane (cells w) c.grid) (plane (cells8 w) c.labels)
     (grid-at s w h c) (label-at s w h c))
 
@@ -186,9 +147,9 @@ module _ (s : List ℕ) (w h : ℕ) (c : Pictured s w h) (r : Region) (o : Outli
   abbrev P : List (ℕ × ℕ)
   P = points_for s w h c r
 
-  answer-is : o.answer ≡ Points (length P)
-  unfolding outline_by
-  answer-is = o.answer-is ∙ ap (λ (n : ℕ). outline_by n (length P)) o.accepted
+  answer-is : o.answer ≡ Ok (length P)
+  unfolding answered
+  answer-is = said-give o.answer (length P) (o.answer-is ∙ ap (λ (n : ℕ). answered n (length P)) o.accepted)
 
   list-is : o.list ≡ laid (floats_of P) o.lent
   unfolding list_after
@@ -196,5 +157,5 @@ module _ (s : List ℕ) (w h : ℕ) (c : Pictured s w h) (r : Region) (o : Outli
 
   pub listed-is : numbers_listed o.answer o.list ≡ floats_of P
   listed-is =
-      ap₂ (λ (a : Answer) (l : List Float). numbers_listed a l) answer-is list-is
+      ap₂ (λ (a : Result ℕ Refusal) (l : List Float). numbers_listed a l) answer-is list-is
       ∙ take_at (floats_of P) (drop (length (floats_of P)) o.lent) (2 * length P) (length-floats P)

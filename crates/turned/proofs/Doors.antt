@@ -62,7 +62,7 @@ swap a b c d a' b' c' d' ea eb ec ed f =
     (λ e. ec ∙ f.0 (sym ea ∙ e ∙ eb) ∙ sym ed, λ e. ea ∙ f.1 (sym ec ∙ e ∙ ed) ∙ sym eb)
 
 -- how many regions were answered in all
-all-is : (s : List ℕ) (w h : ℕ) (c : Pictured s w h) → c.answer.regions.all ≡ groups_of (plane w s) w h
+all-is : (s : List ℕ) (w h : ℕ) (c : Pictured s w h) → c.regions.all ≡ groups_of (plane w s) w h
 all-is s w h c = ap (λ (k : Kept). k.all) (regions-is s w h c) ∙ unfold kept_regions in refl
 
 module _ (n : ℕ) (way : Way) (exact : Exact n way) (m : Move) (W H : ℕ) (s : List ℕ) (c : Pictured s (16 * W) (16 * H)) (s' : List ℕ)
@@ -124,10 +124,10 @@ module _ (n : ℕ) (way : Way) (exact : Exact n way) (m : Move) (W H : ℕ) (s :
       label-at s' w' h' c' _ _ (subst (λ (n : ℕ). (place_of m (cells8 w) (cells8 h) x y).0 < n) (sym e.0) i.0)
       (subst (λ (n : ℕ). (place_of m (cells8 w) (cells8 h) x y).1 < n) (sym e.1) i.1)
 
-  kept-is : c.answer.regions.kept ≡ kept_count p w h
+  kept-is : c.regions.kept ≡ kept_count p w h
   kept-is = ap (λ (k : Kept). k.kept) (regions-is s w h c) ∙ unfold kept_regions in refl
 
-  kept-is' : c'.answer.regions.kept ≡ kept_count p' w' h'
+  kept-is' : c'.regions.kept ≡ kept_count p' w' h'
   kept-is' = ap (λ (k : Kept). k.kept) (regions-is s' w' h' c') ∙ unfold kept_regions in refl
 
   thresholds : (x y : ℕ) → x < W → y < H

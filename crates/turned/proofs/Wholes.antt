@@ -28,19 +28,34 @@ use Rattle.doubled.proofs.Points.{pairs-numbers}
 use Rattle.doubled.proofs.Checks.{hull-passed}
 use Rattle.doubled.proofs.Accepted.{hull-good, quad-good, fewer}
 use Rattle.doubled.proofs.Twices.{doubled-is}
-use Rattle.whole_hull.specs.Door.{hull_by, hull_after}
-use Rattle.whole_hull.specs.declared.Answer.{Answer}
-use Rattle.whole_hull.specs.declared.Answer.TheVariants.{Vertices}
+use Rattle.whole_hull.specs.Door.{hull_after}
+use Rattle.std.proofs.Common.{Option, Some, None, Result, Ok, Err}
+use Rattle.std.proofs.lemmas.Option.{none-some}
+use Rattle.laws.specs.Said.{Said, give}
+use Rattle.refusal.specs.declared.Refusal.{Refusal}
+use Rattle.refusal.specs.Numbers.{said, said_some, answered}
+use Rattle.refusal.proofs.Numbers.{said-give}
 use Rattle.whole_quad.specs.Door.{quad_of_pairs, quad_by}
-use Rattle.whole_quad.specs.declared.corners.Corners.{Corners}
-use Rattle.whole_quad.specs.declared.corners.Corners.TheVariants.{Found, NoQuad, Refused}
+use Rattle.whole_quad.specs.declared.corners.Quad.{Quad}
 use Rattle.turned.specs.Taken.{in_wholes}
-use Rattle.turned.specs.Calls.{DoubledCall, stored_by, WholeHullCall, whole_count, whole_vertices, WholeQuadCall}
+use Rattle.turned.specs.Calls.{DoubledCall, stored_by, WholeHullCall, count_of, whole_vertices, WholeQuadCall}
 use Rattle.turned.specs.Accepts.{WholeAccepted}
 use Rattle.turned.specs.Outlines.{ShapesAlike, ByWholes}
 use Rattle.turned.proofs.Shapes.{hull-within}
 use Rattle.turned.proofs.Turned.{wholes-exact}
 use Rattle.turned.proofs.Answers.{as_many}
+
+-- what a call says tells the call's answer
+said-some : {A : Type 0} (r : Result (Option A) Refusal) (o : Option A) → said_some r ≡ said_some (Ok o) → r ≡ Ok o
+said-some (Ok (Some a)) (Some b) e = cc
+said-some (Ok (Some a)) None e = cc
+said-some (Ok None) (Some b) e = cc
+said-some (Ok None) None e = refl
+said-some (Err r) (Some b) e = cc
+said-some (Err r) None e = cc
+
+abbrev quad_some : List (ℕ × ℕ) → Said Quad
+quad_some L = said_some (Ok (quad_of_pairs L))
 
 module _ (L : List (ℕ × ℕ)) (l : List Float) (e : l ≡ floats_of L) (up : UpTo 8192 L) where
   twices-is : twices l ≡ numbers_of L
@@ -76,19 +91,19 @@ module _ (L : List (ℕ × ℕ)) (l : List Float) (e : l ≡ floats_of L) (up : 
       pairs_is : pairs_of (stored_by l d) ≡ L
       pairs_is = ap pairs_of stored_is ∙ pairs-numbers L
 
-      answer-is : k.answer ≡ Vertices (length K)
-      unfolding hull_by
-      answer-is =
-          k.answer-is ∙ ap (λ (n : ℕ). hull_by n (length (hull_whole (pairs_of (stored_by l d))))) k.accepted
-          ∙ ap (λ (x : List (ℕ × ℕ)). Vertices (length (hull_whole x))) pairs_is
+      told : said k.answer ≡ give (length K)
+      unfolding answered
+      told =
+          k.answer-is ∙ ap (λ (n : ℕ). answered n (length (hull_whole (pairs_of (stored_by l d))))) k.accepted
+          ∙ ap (λ (x : List (ℕ × ℕ)). give (length (hull_whole x))) pairs_is
 
-      pub count-is : whole_count k.answer ≡ length K
-      count-is = ap whole_count answer-is
+      pub count-is : count_of k.answer ≡ length K
+      count-is = ap count_of (said-give k.answer (length K) told)
 
       pub vertices-is : whole_vertices (stored_by l d) k ≡ numbers_of K
       vertices-is =
           ap₂ (λ (n : ℕ) (x : List ℕ). take (2 * n) x) count-is
-          (k.list-is ∙ ap (λ (a : Answer). hull_after a (stored_by l d) k.lent) answer-is
+          (k.list-is ∙ ap (λ (a : Said ℕ). hull_after a (stored_by l d) k.lent) told
           ∙ ap (λ (x : List (ℕ × ℕ)). laid (numbers_of (hull_whole x)) k.lent) pairs_is)
           ∙ take_at (numbers_of K) (drop (length (numbers_of K)) k.lent) (2 * length K) (length-numbers K)
 
@@ -97,13 +112,14 @@ module _ (L : List (ℕ × ℕ)) (l : List Float) (e : l ≡ floats_of L) (up : 
           ap check_quad vertices-is
           ∙ quad-good K (hull-within 8192 in_wholes wholes-exact L up) (le_trans (fewer L) few)
 
-      pub corners-is : (q : WholeQuadCall (whole_vertices (stored_by l d) k)) → q.answer ≡ quad_of_pairs (quad_whole K)
+      pub corners-is : (q : WholeQuadCall (whole_vertices (stored_by l d) k)) → q.answer ≡ Ok (quad_of_pairs (quad_whole K))
       unfolding quad_by
       corners-is q =
-          q.answer-is
+          said-some q.answer (quad_of_pairs (quad_whole K))
+          (q.answer-is
           ∙ ap (λ (n : ℕ). quad_by n (quad_whole (pairs_of (whole_vertices (stored_by l d) k)))) quad-accepted
-          ∙ ap (λ (v : List ℕ). quad_of_pairs (quad_whole (pairs_of v))) vertices-is
-          ∙ ap (λ (x : List (ℕ × ℕ)). quad_of_pairs (quad_whole x)) (pairs-numbers K)
+          ∙ ap (λ (v : List ℕ). quad_some (quad_whole (pairs_of v))) vertices-is
+          ∙ ap (λ (x : List (ℕ × ℕ)). quad_some (quad_whole x)) (pairs-numbers K))
 
   pub whole-accepted : length L ≤ 16384 → WholeAccepted l
   whole-accepted few = record {
@@ -115,22 +131,23 @@ module _ (L : List (ℕ × ℕ)) (l : List Float) (e : l ≡ floats_of L) (up : 
   }
 
 -- ---- none
-none-empty : (L : List (ℕ × ℕ)) → (quad_of_pairs L ≡ NoQuad → length L ≡ 0) × (length L ≡ 0 → quad_of_pairs L ≡ NoQuad)
+none-empty : (L : List (ℕ × ℕ)) → (quad_of_pairs L ≡ None → length L ≡ 0) × (length L ≡ 0 → quad_of_pairs L ≡ None)
 unfolding quad_of_pairs
 none-empty [] = (λ n. refl, λ n. refl)
-none-empty (q ∷ L) = (λ n. absurd (subst found n tt), λ n. absurd (omega (arith, n)))
-  where
-    found : Corners → Type 0
-    found (Found q) = Unit {0}
-    found NoQuad = ⊥
-    found (Refused n) = ⊥
+none-empty (q ∷ L) = (λ n. absurd (none-some _ (sym n)), λ n. absurd (omega (arith, n)))
 
-none_both : (a a' : Corners) (L L' : List (ℕ × ℕ)) → a ≡ quad_of_pairs L → a' ≡ quad_of_pairs L' → length L' ≡ length L
-    → (a ≡ NoQuad) ↔ (a' ≡ NoQuad)
+-- an answer's value
+ok-same : {A : Type 0} (a b : A) → ◌≡◌ {A = Result A Refusal} (Ok a) (Ok b) → a ≡ b
+ok-same a b e = cc
+
+none_both : (a a' : Result (Option Quad) Refusal) (L L' : List (ℕ × ℕ)) → a ≡ Ok (quad_of_pairs L) → a' ≡ Ok (quad_of_pairs L')
+    → length L' ≡ length L → (a ≡ Ok None) ↔ (a' ≡ Ok None)
 none_both a a' L L' e e' same =
     let z = none-empty L in
     let z' = none-empty L' in
-    (λ n. e' ∙ z'.1 (same ∙ z.0 (sym e ∙ n)), λ n. e ∙ z.1 (sym same ∙ z'.0 (sym e' ∙ n)))
+    let empty : a ≡ Ok None → length L ≡ 0 = λ n. z.0 (ok-same _ _ (sym e ∙ n)) in
+    let empty' : a' ≡ Ok None → length L' ≡ 0 = λ n. z'.0 (ok-same _ _ (sym e' ∙ n)) in
+    (λ n. e' ∙ ap Ok (z'.1 (same ∙ empty n)), λ n. e ∙ ap Ok (z.1 (sym same ∙ empty' n)))
 
 -- ---- a picture and the moved one
 pub by-wholes : (m : Move) (w h : ℕ) (L L' : List (ℕ × ℕ)) (l l' : List Float) → l ≡ floats_of L → l' ≡ floats_of L' → UpTo 8192 L → UpTo 8192 L'

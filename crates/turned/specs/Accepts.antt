@@ -29,12 +29,12 @@ pub record DoorsAccept : Type 0 where
       → check_grids (16 * W) (16 * H) (length s) grid labels stack ≡ 0
   -- Nor does one of the outline door, for a region that was answered.
   pub outline : (W H : ℕ) (s : List ℕ) → Taken 4096 W H s → (c : Pictured s (16 * W) (16 * H)) (i room : ℕ)
-      → i < c.answer.regions.kept
+      → i < c.regions.kept
       → 4 * ((region_of s (16 * W) (16 * H) c i).x1 - (region_of s (16 * W) (16 * H) c i).x0
       + ((region_of s (16 * W) (16 * H) c i).y1 - (region_of s (16 * W) (16 * H) c i).y0)) ≤ room
       → checked_for s (16 * W) (16 * H) c (region_of s (16 * W) (16 * H) c i) room ≡ 0
   -- Nor, of the numbers that it then listed, one of `doubled`, of whole_hull's `convex_hull` on the numbers that this stored, where the lent
   -- lists have as many places, or of whole_quad's `quad` on the vertices that are listed then.
   pub whole : (W H : ℕ) (s : List ℕ) → Taken 4096 W H s → (c : Pictured s (16 * W) (16 * H)) (i : ℕ)
-      → i < c.answer.regions.kept → (o : Outlined s (16 * W) (16 * H) c (region_of s (16 * W) (16 * H) c i))
+      → i < c.regions.kept → (o : Outlined s (16 * W) (16 * H) c (region_of s (16 * W) (16 * H) c i))
       → WholeAccepted (numbers_listed o.answer o.list)

@@ -11,7 +11,7 @@ use Rattle.lcr_core.specs.Version.{IsVersion, positions_of}
 use Rattle.marks.specs.Pose.{MarkMove, MarksMoved, corner_to, reversed_to}
 use Rattle.turned.specs.Taken.{Taken, NoTies}
 use Rattle.turned.specs.Outlines.{ByFloats, ByWholes}
-use Rattle.turned.specs.Calls.{Pictured, region_of, Outlined, numbers_listed, CorrelateCall}
+use Rattle.turned.specs.Calls.{Pictured, region_of, Outlined, numbers_listed, CorrelateCall, counts_in}
 
 -- ---- pictures
 
@@ -53,10 +53,10 @@ module _ (m : Move) (W H : ℕ) (s : List ℕ) (c : Pictured s (16 * W) (16 * H)
     pub unlabelled : (x y : ℕ) → x < cells8 w → y < cells8 h → (labelled x y ≡ 0) ↔ (labelled' x y ≡ 0)
     pub groups : (x y u v : ℕ) → x < cells8 w → y < cells8 h → u < cells8 w → v < cells8 h → 0 < labelled x y → 0 < labelled u v
         → (labelled x y ≡ labelled u v) ↔ (labelled' x y ≡ labelled' u v)
-    pub all : c'.answer.regions.all ≡ c.answer.regions.all
-    pub kept : c'.answer.regions.kept ≡ c.answer.regions.kept
-    pub regions : (i : ℕ) → i < c.answer.regions.kept → RegionsAlike (region_of s w h c i) (region_of s' w' h' c' i)
-    pub outlines : (i : ℕ) → i < c.answer.regions.kept
+    pub all : c'.regions.all ≡ c.regions.all
+    pub kept : c'.regions.kept ≡ c.regions.kept
+    pub regions : (i : ℕ) → i < c.regions.kept → RegionsAlike (region_of s w h c i) (region_of s' w' h' c' i)
+    pub outlines : (i : ℕ) → i < c.regions.kept
         → (o : Outlined s w h c (region_of s w h c i)) (o' : Outlined s' w' h' c' (region_of s' w' h' c' i))
         → alike (numbers_listed o.answer o.list) (numbers_listed o'.answer o'.list)
 
@@ -78,7 +78,7 @@ count_at counts r reversed = get_or counts (cond reversed (4 + r) r) 0
 unfoldable pub MarkDoorMoved : Type 0
 MarkDoorMoved = (v : ℕ) → IsVersion v → (g : MarkMove) (old new : List Bool) → length old ≡ positions_of v → MarksMoved v g old new
     → (c : CorrelateCall v old) (c' : CorrelateCall v new) (r : ℕ) (reversed : Bool) → r < 4
-    → count_at c'.answer.counts (corner_to g r) (reversed_to g reversed) ≡ count_at c.answer.counts r reversed
+    → count_at (counts_in c'.answer) (corner_to g r) (reversed_to g reversed) ≡ count_at (counts_in c.answer) r reversed
 
 pub record DoorsMoved : Type 0 where
   pub pictures : PictureDoorsMoved 1024 ByFloats

@@ -1,6 +1,6 @@
 -- What the outline door lists for a region of a picture and of the moved one, and what calls of hull and quad make of it, by f32 numbers and by
 -- whole numbers: moved alike, as demand 3 has it. Statements only.
-use Rattle.std.specs.Prelude.{◌≡◌, ◌↔◌, List, ℕ, Float}
+use Rattle.std.specs.Prelude.{◌≡◌, ◌↔◌, List, ℕ, Float, None, Ok}
 use Rattle.laws.specs.Lists.{NoDup}
 use Rattle.laws.specs.Move.{Move}
 use Rattle.whole.specs.Points.{Pt, Rot, Clockwise, Starts}
@@ -8,11 +8,9 @@ use Rattle.whole.specs.Quad.{Far, OneTop}
 use Rattle.whole.specs.Moves.{often, moved_point, moved_round}
 use Rattle.hull.specs.Points.{pts_of, floats_of, numbers_of}
 use Rattle.hull.specs.Quad.{values_of}
-use Rattle.hull.specs.declared.points.Corners.TheVariants.{NoQuad}
 use Rattle.whole_quad.specs.Door.{quad_of_pairs}
-use Rattle.whole_quad.specs.declared.corners.Corners.TheVariants as whole
 use Rattle.turned.specs.Calls.{HullCall, count_of, vertices_of, QuadCall}
-use Rattle.turned.specs.Calls.{DoubledCall, stored_by, WholeHullCall, whole_count, whole_vertices, WholeQuadCall}
+use Rattle.turned.specs.Calls.{DoubledCall, stored_by, WholeHullCall, whole_vertices, WholeQuadCall}
 
 -- Points, vertices and corners of a region of a picture of w by h, and those of the moved picture's, in doubled coordinates: as demand 3 has
 -- them.
@@ -39,7 +37,7 @@ pub record OutlinesAlike (m : Move) (w h : ℕ) (l l' : List Float) (k : HullCal
   pub count : count_of k'.answer ≡ count_of k.answer
   pub alike : ShapesAlike m w h points points' vertices vertices' corners corners'
   pub none : (a b : Pt) → Far (pts_of vertices) a b → OneTop (pts_of vertices) a b → OneTop (pts_of vertices) b a
-      → (q.answer ≡ NoQuad) ↔ (q'.answer ≡ NoQuad)
+      → (q.answer ≡ None) ↔ (q'.answer ≡ None)
 
 -- The same by whole numbers: a call of `doubled` on each, one of whole_hull's `convex_hull` on the numbers that it stored, and one of
 -- whole_quad's `quad` on the vertices that this listed.
@@ -55,11 +53,11 @@ pub record WholeOutlinesAlike (m : Move) (w h : ℕ) (l l' : List Float) (d : Do
   pub stored : (l ≡ floats_of points) × (l' ≡ floats_of points')
   pub doubled : (stored_by l d ≡ numbers_of points) × (stored_by l' d' ≡ numbers_of points')
   pub hulled : (whole_vertices (stored_by l d) k ≡ numbers_of vertices) × (whole_vertices (stored_by l' d') k' ≡ numbers_of vertices')
-  pub cornered : (q.answer ≡ quad_of_pairs corners) × (q'.answer ≡ quad_of_pairs corners')
-  pub count : whole_count k'.answer ≡ whole_count k.answer
+  pub cornered : (q.answer ≡ Ok (quad_of_pairs corners)) × (q'.answer ≡ Ok (quad_of_pairs corners'))
+  pub count : count_of k'.answer ≡ count_of k.answer
   pub alike : ShapesAlike m w h points points' vertices vertices' corners corners'
   pub none : (a b : Pt) → Far (pts_of vertices) a b → OneTop (pts_of vertices) a b → OneTop (pts_of vertices) b a
-      → (q.answer ≡ whole.NoQuad) ↔ (q'.answer ≡ whole.NoQuad)
+      → (q.answer ≡ Ok None) ↔ (q'.answer ≡ Ok None)
 
 -- What `convex_hull` and `quad` then do, by f32 numbers and by whole numbers, in every call.
 unfoldable pub ByFloats : Move → ℕ → ℕ → List Float → List Float → Type 0

@@ -50,6 +50,7 @@ fn kept(a: &[u16], s: &[u16], n: usize, e: u32) -> usize
         × Steep (value_at a.now) e (stack_of s.now result) }
 {
     let mut m = n;
+    // Kept: a stack is taken down from its top as long as a test holds; a `for` counts up.
     while 1 < m {
         if behind(a, s[m - 2] as u32, s[m - 1] as u32, e) {
             m -= 1;
@@ -85,10 +86,8 @@ pub fn chain(a: &[u16], s: &mut [u16], left: u32, right: u32) -> usize
     ensures { Chain (value_at a.now) 8193 (stack_of s.new result) × (result ≤ 8193) }
 {
     let mut n = 0usize;
-    let mut e = left;
-    while e < right + 1 {
+    for e in left..right + 1 {
         n = placed(a, s, n, e);
-        e += 1;
     }
     n
 }

@@ -39,11 +39,9 @@ fn put_run(a: &[u16], s: &[u16], k: usize, back: bool, out: &mut [u32], at: usiz
     ensures { Stored at (numbers_of (list_up_to (vertex back a.now s.now) k))
         out.old out.new result }
 {
-    let mut i = 0usize;
     let mut m = at;
-    while i < k {
+    for i in 0..k {
         m = put_vertex(a, s, i, back, out, m);
-        i += 1;
     }
     m
 }

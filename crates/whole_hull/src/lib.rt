@@ -10,36 +10,28 @@
 
 ghost use Rattle.std.specs.Prelude.{◌≡◌, ◌*◌, ◌≤◌, length};
 ghost use Rattle.laws.specs.Lent.{laid};
+ghost use Rattle.refusal.specs.Numbers.{said};
 ghost use Rattle.hull.specs.Points.{many, numbers_of};
 ghost use Rattle.doubled.specs.Points.{pairs_of, Bounded};
 ghost use Rattle.doubled.specs.Outline.{hull_whole};
 ghost use Rattle.whole_hull.specs.Door.{hull_answer, hull_after};
 
 use doubled::refusals::check_hull;
+use refusal::Refusal;
 
 mod chain;
 mod laying;
 mod tops;
 
-// How many vertices the lent list holds, or the number of a refusal.
-#[derive(Drop)]
-pub enum Answer {
-    Vertices(usize),
-    Refused(u32),
-}
-
 // Stores the vertices of the hull of the points p in out, clockwise with x to the right and y down,
-// from the least x, then the least y. The places past them stay as they are.
-pub fn convex_hull(p: &[u32], out: &mut [u32]) -> Answer
-    ensures answer { result ≡ hull_answer p.now (length out.old) }
-    ensures out { out.new ≡ hull_after result p.now out.old }
+// from the least x, then the least y, and tells how many there are. The places past them stay as
+// they are.
+pub fn convex_hull(p: &[u32], out: &mut [u32]) -> Result<usize, Refusal>
+    ensures answer { said result ≡ hull_answer p.now (length out.old) }
+    ensures out { out.new ≡ hull_after (said result) p.now out.old }
 {
-    let no = check_hull(p, out.len());
-    if no == 0 {
-        let k = vertices(p, out);
-        return Answer::Vertices(k);
-    }
-    Answer::Refused(no)
+    check_hull(p, out.len())?;
+    Ok(vertices(p, out))
 }
 
 // Stores the vertices of the hull in out, and returns how many there are. The places past them stay

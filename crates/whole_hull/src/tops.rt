@@ -7,7 +7,7 @@ ghost use Rattle.whole_hull.specs.Inner.{seen as Seen, Tops, Spans, lowered};
 use doubled::coordinates::{x_at, y_at};
 
 // The least and the greatest of some x.
-#[derive(Drop)]
+#[derive(Clone, Copy)]
 pub struct Span {
     pub left: u32,
     pub right: u32,
@@ -19,15 +19,10 @@ fn widened(s: Span, x: u32) -> Span
     ensures bounds { (result.left ≤ s.left) × (s.right ≤ result.right) }
     ensures facts { (result.left ≤ x) × (x ≤ result.right) × (result.right ≤ 8192) }
 {
-    let left = s.left;
-    let right = s.right;
-    if x < left {
-        return Span { left: x, right };
+    Span {
+        left: s.left.min(x),
+        right: s.right.max(x),
     }
-    if right < x {
-        return Span { left, right: x };
-    }
-    s
 }
 
 // A coordinate as it is, or counted from the other end.
@@ -82,12 +77,10 @@ pub fn tops(p: &[u32], a: &mut [u16], b: &mut [u16]) -> Span
         left: first,
         right: first,
     };
-    let mut i = 0usize;
-    while i < n {
+    for i in 0..n {
         let x = x_at(p, i);
         lower_both(a, b, x, y_at(p, i));
         s = widened(s, x);
-        i += 1;
     }
     s
 }

@@ -1,6 +1,6 @@
 -- The folds of the quad, a step at a time.
 --     keep_append, keep_one, keep-value, keep_low, keep-any, value-any   a fold over any list
---     kept-yes, kept-no, kept-at, kept_in, larger-in                     one step of it
+--     kept-yes, kept-no, kept-at, kept_in                                one step of it
 --     keep-begin, keep-turn, keep-end                                    over points
 --     reach-begin, reach-turn, reach-end; partner-turn, partner-end      over the pairs of one point with a later one
 --     rows_are                                                           over all pairs, point by point
@@ -8,7 +8,7 @@
 use mathlib.Core.Path.{◌≡◌, refl, sym, ap, ◌∙◌, subst}
 use mathlib.Core.Bool.{Bool, true, false}
 use mathlib.Core.List.{List, [], ◌∷◌, ◌++◌, map}
-use Prim.Native.Nat.{ℕ, zero, suc, ◌+◌, ◌-◌, ◌≤◌, ◌<◌}
+use Prim.Native.Nat.{ℕ, zero, suc, ◌+◌, ◌-◌, ◌≤◌, ◌<◌, max}
 use native.Mathlib.Omega.{arith}
 use lib.Dec.{ltb}
 use borrow.Author.Tests.{lt-ltb, le-ltb, ltb-true, ltb-false}
@@ -150,13 +150,6 @@ kept_in x y u s at val m e hx hy = go (ltb u s) e
     go false e = subst (λ (k : ℕ). k < m) (sym (ap (λ (q : ℕ × ℕ). q.0) e)) hx
 
 -- the greater of two numbers is one of them
-pub larger-in : (m d r k : ℕ) → (m < d → r ≡ d) → (d ≤ m → r ≡ m) → m ≤ k → d ≤ k → r ≤ k
-larger-in m d r k more less hm hd = go (ltb m d) refl
-  where
-    go : (b : Bool) → ltb m d ≡ b → r ≤ k
-    go true t = subst (λ (j : ℕ). j ≤ k) (sym (more (ltb-true m d t))) hd
-    go false t = subst (λ (j : ℕ). j ≤ k) (sym (less (ltb-false m d t))) hm
-
 -- ---- points
 module _ (g : ℕ → ℕ) where
   pub keep-begin : (x n u : ℕ) → keep ltb g x u (range 0 (n - 0)) ≡ keep ltb g x u (range 0 n)
@@ -205,8 +198,8 @@ module _ (g : ℕ × ℕ → ℕ) (some : (q : ℕ × ℕ) → 0 < g q) (n : ℕ
   abbrev rest : ℕ → ℕ → (ℕ × ℕ) × ℕ → ℕ
   rest i j q = (keep ltb g q.0 q.1 (row i (j + 1))).1
 
-  pub reach-turn : (i j m d r : ℕ) → j < n → d + 1 ≡ g (i, j) → (m < d → r ≡ d) → (d ≤ m → r ≡ m) → from i (j + 1) r ≡ from i j m
-  reach-turn i j m d r h e more less =
+  pub reach-turn : (i j m d r : ℕ) → j < n → d + 1 ≡ g (i, j) → r ≡ max m d → from i (j + 1) r ≡ from i j m
+  reach-turn i j m d r h e is =
       go (ltb m d) refl
       ∙ sym (ap (λ (l : List (ℕ × ℕ)). (keep ltb g (0, 0) (m + 1) l).1) (row_first i j h)
       ∙ ap (λ (q : (ℕ × ℕ) × ℕ). q.1) (keep_one g (0, 0) (m + 1) (i, j) (row i (j + 1))))
@@ -214,11 +207,11 @@ module _ (g : ℕ × ℕ → ℕ) (some : (q : ℕ × ℕ) → 0 < g q) (n : ℕ
       go : (b : Bool) → ltb m d ≡ b → from i (j + 1) r ≡ rest i j (kept1 g (0, 0) (m + 1) (i, j))
       go true t =
           let l = ltb-true m d t in
-          ap (λ (k : ℕ). from i (j + 1) k) (more l) ∙ value-any g (0, 0) (i, j) (d + 1) (row i (j + 1))
+          ap (λ (k : ℕ). from i (j + 1) k) (let z : r ≡ d = omega arith in z) ∙ value-any g (0, 0) (i, j) (d + 1) (row i (j + 1))
           ∙ ap (rest i j) (kept-yes g (0, 0) (i, j) (m + 1) (d + 1) e (omega arith))
       go false t =
           let l = ltb-false m d t in
-          ap (λ (k : ℕ). from i (j + 1) k) (less l) ∙ ap (rest i j) (kept-no g (0, 0) (i, j) (m + 1) (d + 1) e (omega arith))
+          ap (λ (k : ℕ). from i (j + 1) k) (let z : r ≡ m = omega arith in z) ∙ ap (rest i j) (kept-no g (0, 0) (i, j) (m + 1) (d + 1) e (omega arith))
 
   pub reach-begin : (i j : ℕ) → j < n → from i j 0 ≡ (found i j).1
   reach-begin i j h =

@@ -6,10 +6,12 @@
 #![tactic(auto)]
 
 ghost use Rattle.std.specs.Prelude.{◌≡◌};
+ghost use Rattle.refusal.specs.Numbers.{said_some};
 ghost use Rattle.whole_quad.specs.Door.{quad_answer};
 
-use crate::corners::Corners;
+use crate::corners::Quad;
 use doubled::refusals::check_quad;
+use refusal::Refusal;
 
 pub mod corners;
 mod points;
@@ -17,12 +19,9 @@ mod sides;
 
 // The quad of the vertices p of a hull: the farthest pair, and the farthest point on either side of
 // it.
-pub fn quad(p: &[u32]) -> Corners
-    ensures { result ≡ quad_answer p.now }
+pub fn quad(p: &[u32]) -> Result<Option<Quad>, Refusal>
+    ensures { said_some result ≡ quad_answer p.now }
 {
-    let no = check_quad(p);
-    if no == 0 {
-        return sides::quad_of(p);
-    }
-    Corners::Refused(no)
+    check_quad(p)?;
+    Ok(sides::quad_of(p))
 }

@@ -1,6 +1,6 @@
 // The farthest pair of a list of points, the farthest point on either side of a pair, and the quad
 // that these make.
-ghost use Rattle.std.specs.Prelude.{◌≡◌, [], ◌∷◌, ◌+◌, ◌-◌, ◌*◌, ◌<◌, ◌≤◌, ltb, length};
+ghost use Rattle.std.specs.Prelude.{◌≡◌, [], ◌∷◌, ◌+◌, ◌-◌, ◌*◌, ◌<◌, ◌≤◌, ltb, length, Some};
 ghost use Rattle.laws.specs.Lists.{range};
 ghost use Rattle.whole.specs.Walk.{keep, index_pairs};
 ghost use Rattle.hull.specs.Points.{many};
@@ -9,7 +9,7 @@ ghost use Rattle.doubled.specs.Outline.{quad_whole};
 ghost use Rattle.whole_quad.specs.Door.{quad_of_pairs, pair_point};
 ghost use Rattle.whole_quad.specs.Inner.{apart, kept1, far_from, reach_of, most_of};
 
-use crate::corners::{Corners, Point, Quad};
+use crate::corners::{Point, Quad};
 use crate::points::{d2_at, side_at};
 use doubled::coordinates::{x_at, y_at};
 
@@ -32,6 +32,7 @@ fn greater(k: Outermost, i: usize, s: u32) -> Outermost
 }
 
 // k, or point i where its side s is less: where its side of the way back is greater.
+// Kept: by `greater` each point's side would be counted once more, from the way back.
 fn less(k: Outermost, i: usize, s: u32) -> Outermost
     requires { (k.val ≤ 536870912) × (s ≤ 536870912) }
     ensures { ((result.at, 536870912 - result.val)
@@ -70,27 +71,12 @@ fn most(p: &[u32], a: usize, b: usize) -> Sides
         at: a,
         val: 268435456,
     };
-    let mut i = 0;
-    while i < n {
+    for i in 0..n {
         let s = side_at(p, a, b, i);
         right = greater(right, i, s);
         left = less(left, i, s);
-        i += 1;
     }
-    Sides {
-        right: right,
-        left: left,
-    }
-}
-
-// The greater of two numbers.
-fn larger(m: u32, d: u32) -> u32
-    ensures { (m < d → result ≡ d) × (d ≤ m → result ≡ m) }
-{
-    if m < d {
-        return d;
-    }
-    m
+    Sides { right, left }
 }
 
 // One more than the greatest squared distance of point i from a later one.
@@ -100,11 +86,9 @@ fn reach(p: &[u32], i: usize) -> u32
     ensures { result ≡ reach_of p.now i }
 {
     let n = p.len() / 2;
-    let mut far = 0;
-    let mut j = i + 1;
-    while j < n {
-        far = larger(far, d2_at(p, i, j));
-        j += 1;
+    let mut far = 0u32;
+    for j in i + 1..n {
+        far = far.max(d2_at(p, i, j));
     }
     far + 1
 }
@@ -119,10 +103,8 @@ fn widest(p: &[u32]) -> Outermost
 {
     let last = p.len() / 2 - 1;
     let mut k = Outermost { at: 0, val: 0 };
-    let mut i = 0;
-    while i < last {
+    for i in 0..last {
         k = greater(k, i, reach(p, i));
-        i += 1;
     }
     k
 }
@@ -134,6 +116,7 @@ fn partner(p: &[u32], i: usize, far: u32) -> usize
     ensures { (((i, result), far) ≡ far_from p.now i) × (result < many p.now) }
 {
     let mut j = i + 1;
+    // Kept: a point as far away is there, so no end is asked for; a `for` or `position` asks for one, and for an answer past it.
     while d2_at(p, i, j) + 1 < far {
         j += 1;
     }
@@ -162,11 +145,7 @@ fn farthest(p: &[u32]) -> Pair
     let a = k.at;
     let far = k.val;
     let b = partner(p, a, far);
-    Pair {
-        a: a,
-        b: b,
-        far: far,
-    }
+    Pair { a, b, far }
 }
 
 // Point i.
@@ -182,13 +161,13 @@ fn point_at(p: &[u32], i: usize) -> Point
 }
 
 // The quad of points a, b, c and d.
-fn corners_at(p: &[u32], a: usize, b: usize, c: usize, d: usize) -> Corners
+fn corners_at(p: &[u32], a: usize, b: usize, c: usize, d: usize) -> Quad
     requires a_bound { (a < many p.now)
         × (b < many p.now)
         × (c < many p.now)
         × (d < many p.now) }
     requires bounded { Bounded p.now }
-    ensures { result ≡ quad_of_pairs
+    ensures { Some result ≡ quad_of_pairs
         ((x_at p.now a, y_at p.now a)
         ∷ (x_at p.now b, y_at p.now b)
         ∷ (x_at p.now c, y_at p.now c)
@@ -199,24 +178,24 @@ fn corners_at(p: &[u32], a: usize, b: usize, c: usize, d: usize) -> Corners
     let pb = point_at(p, b);
     let pc = point_at(p, c);
     let pd = point_at(p, d);
-    Corners::Found(Quad {
+    Quad {
         a: pa,
         b: pb,
         c: pc,
         d: pd,
-    })
+    }
 }
 
 // The quad of the vertices of a hull. Going by c, which is on the right of the way from a to b, the
 // corners would go round the other way (their area is below 0, whatever the points), so d comes
 // first.
-pub fn quad_of(p: &[u32]) -> Corners
+pub fn quad_of(p: &[u32]) -> Option<Quad>
     requires p_len { length p.now ≡ 2 * many p.now }
     requires bounded { Bounded p.now }
     ensures { result ≡ quad_of_pairs (quad_whole (pairs_of p.now)) }
 {
     if p.len() / 2 < 4 {
-        return Corners::NoQuad;
+        return None;
     }
     let t = farthest(p);
     let a = t.a;
@@ -228,9 +207,9 @@ pub fn quad_of(p: &[u32]) -> Corners
     let low = s.left.val;
     if 268435456 < high {
         if low < 268435456 {
-            return corners_at(p, a, d, b, c);
+            return Some(corners_at(p, a, d, b, c));
         }
-        return Corners::NoQuad;
+        return None;
     }
-    Corners::NoQuad
+    None
 }

@@ -20,34 +20,18 @@ pub fn list_room() -> [f32; 32770]
     [0f32; 32770]
 }
 
-// The j-th byte of a word, lowest first; the highest from 3 on.
-fn part(word: u32, j: usize) -> u8 {
-    if j == 0 {
-        return (word % 256) as u8;
-    }
-    if j == 1 {
-        return (word / 256 % 256) as u8;
-    }
-    if j == 2 {
-        return (word / 65536 % 256) as u8;
-    }
-    (word / 16777216) as u8
-}
-
 // The byte at a place of words; 0 past their end.
 fn byte(words: &[u32], k: usize) -> u8 {
     if words.len() <= k / 4 {
         return 0;
     }
-    part(words[k / 4], k % 4)
+    words[k / 4].to_le_bytes()[k % 4]
 }
 
 // The first bytes of words, as many as `bytes` has.
 pub fn unpack(words: &[u32], bytes: &mut [u8]) {
-    let mut k: usize = 0;
-    while k < bytes.len() {
-        bytes[k] = byte(words, k);
-        k += 1;
+    for (k, b) in bytes.iter_mut().enumerate() {
+        *b = byte(words, k);
     }
 }
 
@@ -98,9 +82,7 @@ pub fn word_at(bytes: &[u8], k: usize) -> u32
 pub fn put_bytes(bytes: &[u8], out: &mut [u32], at: usize, n: usize)
     requires { (n ≤ 16384) × (at ≤ 65536) }
 {
-    let mut j: usize = 0;
-    while j < n {
+    for j in 0..n {
         put(out, at + j, word_at(bytes, 4 * j));
-        j += 1;
     }
 }

@@ -4,18 +4,14 @@ use mathlib.Core.Path.{◌≡◌, refl, sym, ap, ◌∙◌}
 use mathlib.Core.Bool.{true, true≢false}
 use Prim.Native.Nat.{ℕ, ◌%◌, ◌<◌}
 use borrow.Author.Tests.{lt-ltb}
-use lib.Ieee.{Float, nan, inf, fin, binary32, binary64, ne, is_nan, div, of_bits, to_bits}
+use lib.Ieee.{Float, nan, inf, fin, binary32, binary64, is_nan, div, of_bits, to_bits}
 use lib.Ieee.Bits.{nan_bits_is, nan_bits_above}
-use Rattle.ieee.proofs.Helpers.{ne-nan}
 
 is-nan : (x : Float) → is_nan x ≡ true → nan ≡ x
 unfolding is_nan
 is-nan nan e = refl
 is-nan (inf s) e = absurd (true≢false (sym e))
 is-nan (fin s m d) e = absurd (true≢false (sym e))
-
-unlike-nan : (x : Float) → ne x x ≡ true → nan ≡ x
-unlike-nan x e = is-nan x (ne-nan x ∙ e)
 
 -- 0 / 0 as a NaN pattern
 pub nan-of : (n : ℕ) → 2139095040 < n % 2147483648 → div binary32 (of_bits binary32 0) (of_bits binary32 0) ≡ of_bits binary32 n
@@ -27,8 +23,8 @@ nan-of n above =
     none : div binary32 (of_bits binary32 0) (of_bits binary32 0) ≡ nan
     none = unfold div of_bits in refl
 
-pub bits-32 : (x : Float) → ne x x ≡ true → 0x7fc0_0000 ≡ to_bits binary32 x
-bits-32 x e = unfold to_bits in ap (to_bits binary32) (unlike-nan x e)
+pub bits-32 : (x : Float) → is_nan x ≡ true → 0x7fc0_0000 ≡ to_bits binary32 x
+bits-32 x e = unfold to_bits in ap (to_bits binary32) (is-nan x e)
 
-pub bits-64 : (x : Float) → ne x x ≡ true → 0x7ff8_0000_0000_0000 ≡ to_bits binary64 x
-bits-64 x e = unfold to_bits in ap (to_bits binary64) (unlike-nan x e)
+pub bits-64 : (x : Float) → is_nan x ≡ true → 0x7ff8_0000_0000_0000 ≡ to_bits binary64 x
+bits-64 x e = unfold to_bits in ap (to_bits binary64) (is-nan x e)

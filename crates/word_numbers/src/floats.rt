@@ -1,5 +1,8 @@
 // Floats of calls: an f32 from its word, an f64 from its two words, low half first, and back. Any
 // NaN pattern is read as a NaN, and a NaN is written as 0x7fc0_0000 or 0x7ff8_0000_0000_0000.
+//
+// Kept: a function of each for f32 and for f64: what may not change, the public names read32, read64
+// and the others, by which the calls name them.
 ghost use Rattle.std.specs.Prelude.{◌≡◌, ◌<◌};
 ghost use Rattle.std.specs.Float.{binary32, binary64};
 ghost use Rattle.std.specs.Float.Ieee.{of_bits, to_bits};
@@ -18,7 +21,7 @@ pub fn f32_of(word: u32) -> f32
 pub fn bits32(x: f32) -> u32
     ensures { result ≡ to_bits binary32 x }
 {
-    if x != x {
+    if x.is_nan() {
         return 0x7fc0_0000;
     }
     f32::to_bits(x)
@@ -36,7 +39,7 @@ fn f64_of(bits: u64) -> f64 {
 pub fn bits64(x: f64) -> u64
     ensures { result ≡ to_bits binary64 x }
 {
-    if x != x {
+    if x.is_nan() {
         return 0x7ff8_0000_0000_0000;
     }
     f64::to_bits(x)
@@ -60,19 +63,15 @@ pub fn at64(args: &[u32], k: usize) -> f64 {
 
 // The first f32 numbers of some words, as many as `to` has.
 pub fn read32(args: &[u32], to: &mut [f32]) {
-    let mut k: usize = 0;
-    while k < to.len() {
-        to[k] = at32(args, k);
-        k += 1;
+    for (k, x) in to.iter_mut().enumerate() {
+        *x = at32(args, k);
     }
 }
 
 // The first f64 numbers of some words, as many as `to` has.
 pub fn read64(args: &[u32], to: &mut [f64]) {
-    let mut k: usize = 0;
-    while k < to.len() {
-        to[k] = at64(args, k);
-        k += 1;
+    for (k, x) in to.iter_mut().enumerate() {
+        *x = at64(args, k);
     }
 }
 
@@ -94,18 +93,14 @@ fn put64(out: &mut [u32], k: usize, x: f64) {
 
 // Writes some f32 numbers one after the other.
 pub fn write32(out: &mut [u32], from: &[f32]) {
-    let mut k: usize = 0;
-    while k < from.len() {
-        put32(out, k, from[k]);
-        k += 1;
+    for (k, x) in from.iter().enumerate() {
+        put32(out, k, *x);
     }
 }
 
 // Writes some f64 numbers one after the other.
 pub fn write64(out: &mut [u32], from: &[f64]) {
-    let mut k: usize = 0;
-    while k < from.len() {
-        put64(out, k, from[k]);
-        k += 1;
+    for (k, x) in from.iter().enumerate() {
+        put64(out, k, *x);
     }
 }

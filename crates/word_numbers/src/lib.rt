@@ -21,61 +21,47 @@ pub fn many(word: u32) -> usize
 pub fn at_most(n: usize, most: usize) -> usize
     ensures { result ≤ most }
 {
-    if most < n {
-        return most;
-    }
-    n
+    n.min(most)
 }
 
 // The signed number whose bits are given.
 pub fn signed(word: u32) -> i32 {
-    if word < 2147483648 {
-        return word as i32;
-    }
-    -1 - ((4294967295 - word) as i32)
+    word.cast_signed()
 }
 
 // The bits of a signed number.
 pub fn bits(c: i32) -> u32 {
-    if c < 0 {
-        return 4294967295 - ((-1 - c) as u32);
-    }
-    c as u32
+    c.cast_unsigned()
 }
 
 // 1 for true.
 pub fn flag(b: bool) -> u32
     ensures { result ≤ 1 }
 {
-    if b { 1 } else { 0 }
+    u32::from(b)
+}
+
+// An answer of some words, where there is room for them.
+fn words(out: &mut [u32], all: &[u32]) -> usize {
+    let n = all.len();
+    if out.len() < n {
+        return 0;
+    }
+    out[..n].copy_from_slice(all);
+    n
 }
 
 // An answer of one word.
 pub fn one(out: &mut [u32], a: u32) -> usize {
-    if out.len() < 1 {
-        return 0;
-    }
-    out[0] = a;
-    1
+    words(out, &[a])
 }
 
 // An answer of two words.
 pub fn two(out: &mut [u32], a: u32, b: u32) -> usize {
-    if out.len() < 2 {
-        return 0;
-    }
-    out[0] = a;
-    out[1] = b;
-    2
+    words(out, &[a, b])
 }
 
 // An answer of three words.
 pub fn three(out: &mut [u32], a: u32, b: u32, c: u32) -> usize {
-    if out.len() < 3 {
-        return 0;
-    }
-    out[0] = a;
-    out[1] = b;
-    out[2] = c;
-    3
+    words(out, &[a, b, c])
 }

@@ -1,5 +1,4 @@
--- `accept::best_of` meets its contract. The best place so far, followed over the places that are left, is the best of all; the measure is
--- how many are left. Assumes nothing.
+-- `accept::best_of` meets its contract. The best place so far, followed over the places that are left, is the best of all. Assumes nothing.
 use Rattle.accept.proofs.BestScores.{best-step, best-end}
 use borrow.Author.Rules.{rules}
 use Rattle.accept.proofs.best_of.Goals as goal

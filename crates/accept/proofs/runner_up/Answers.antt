@@ -1,5 +1,5 @@
--- `accept::runner_up` meets its contract. The greatest so far, followed over the places that are left, is the greatest of all; the measure
--- is how many are left. Assumes nothing.
+-- `accept::runner_up` meets its contract. The greatest so far, followed over the places that are left, is the greatest of all. Assumes
+-- nothing.
 use Rattle.accept.proofs.BestScores.{runner-begin, runner-step, runner-end}
 use Rattle.accept.proofs.runner_up.Goals as goal
 

@@ -1,14 +1,15 @@
 -- `attempt_text::text` meets its contract. Assumes nothing.
 use Rattle.attempt_text.proofs.Wholes.{text-refused, filled_is}
 use mathlib.Core.Path.{refl}
+use Rattle.refusal.proofs.Numbers.{number-none}
 use Rattle.attempt_text.proofs.text.Goals as goal
 
-pub returns-then-n-ne0 : goal.returns-then-n-ne0
-returns-then-n-ne0 c =
+pub returns-in-Err : goal.returns-in-Err
+returns-in-Err c =
     let s = c.args.input.now in
-    let k = c.check-n in
+    let r = c.in-Err in
     let t = c.refused-end.ensures in
-    let k = filled_is _ _ (text-refused s k.result k.ensures c.if-n-ne0.true) c.room-bytes.ensures t.most t.out in
+    let k = filled_is _ _ (text-refused s _ r.ensures (number-none r.r)) c.room-bytes.ensures t.most t.out in
     record { bytes = k.0; len = k.1.0; most = k.1.1 }
 
 pub returns : goal.returns

@@ -2,5 +2,5 @@
 use Rattle.std.proofs.Common.{◌∙◌}
 use Rattle.c_rings.proofs.corners_of.Goals as goal
 
-pub returns-in-Found : goal.returns-in-Found
-returns-in-Found c = c.numbers.ensures ∙ rw c.in-Found.is
+pub returns-in-Some : goal.returns-in-Some
+returns-in-Some c = c.numbers.ensures ∙ rw c.in-Some.is

@@ -1,5 +1,5 @@
 -- `c_rings::put_scores` meets its contract.
--- The invariant: the numbers of the places so far are stored, `Laying`, and there are enough. The measure is what is left of 64.
+-- The invariant: the numbers of the places so far are stored, `Laying`, and there are enough.
 -- Assumes nothing.
 use Rattle.laws.proofs.Laying.{laying-begin, laying-turn, laying-end}
 use Rattle.c_rings.proofs.put_scores.Goals as goal

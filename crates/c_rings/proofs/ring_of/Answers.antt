@@ -2,5 +2,5 @@
 use Rattle.std.proofs.Common.{◌∙◌}
 use Rattle.c_rings.proofs.ring_of.Goals as goal
 
-pub returns-in-At : goal.returns-in-At
-returns-in-At c = c.fifteen.ensures ∙ rw c.in-At.is
+pub returns-in-Some : goal.returns-in-Some
+returns-in-Some c = c.fifteen.ensures ∙ rw c.in-Some.is

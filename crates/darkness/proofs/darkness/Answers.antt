@@ -1,5 +1,8 @@
 -- By the number of the check. Where none refuses, the table is drawn, and four reads of it give each box's count. Assumes nothing.
-use mathlib.Core.Path.{◌∙◌, sym}
+use mathlib.Core.Path.{◌∙◌, refl}
+use Rattle.std.proofs.lemmas.Result.{err_from_is_err_and}
+use Rattle.refusal.proofs.Numbers.{number-none}
+use Rattle.refusal.specs.Numbers.{number_of}
 use Rattle.darkness.proofs.Checks.{counts-refused, table-refused}
 use Rattle.darkness.proofs.Filled.{ink-small}
 use Rattle.darkness.proofs.Readings.{all-readable, all-reads}
@@ -7,30 +10,24 @@ use Rattle.darkness.specs.Darkness.{ink_bit}
 use Rattle.darkness.specs.Door.{counts_after, table_after}
 use Rattle.darkness.proofs.darkness.Goals as goal
 
-pub returns-then-no-ne0 : goal.returns-then-no-ne0
-returns-then-no-ne0 c =
+pub returns-in_err-check : goal.returns-in_err-check
+returns-in_err-check c =
     let a = c.args in
-    let k = c.check-no in
+    let q = c.in_err-check in
+    let p = err_from_is_err_and c.from_residual.result c.from_residual.ensures.1 in
+    let some = number-none q.field-0.0 in
+    rw (p.1, p.2) (
     record {
-      number = k.ensures.answer;
-      table = table-refused k.result a.s.now a.levels.now a.w a.h a.table.now c.if-no-ne0.true;
-      counts = counts-refused k.result a.s.now a.levels.now a.w a.boxes.now a.counts.now c.if-no-ne0.true;
+      number = q.ensures.answer;
+      table = table-refused (number_of q.field-0.0) a.s.now a.levels.now a.w a.h a.table.now some;
+      counts = counts-refused (number_of q.field-0.0) a.s.now a.levels.now a.w a.boxes.now a.counts.now some;
     }
-
-pub fill_table-requires : goal.fill_table-requires
-fill_table-requires c =
-    let p = c.check-no.ensures.passed c.if-no-ne0.false in
-    record {
-      picture =
-          record { w-low = p.0.w-low; w-high = p.0.w-high; h-low = p.0.h-low; h-high = p.0.h-high; count = p.0.count };
-      grid = p.1.grid;
-      room = p.1.room;
-    }
+    )
 
 pub count_all-requires : goal.count_all-requires
 count_all-requires c =
     let a = c.args in
-    let p = c.check-no.ensures.passed c.if-no-ne0.false in
+    let p = c.in_ok-check.ensures.passed refl in
     record {
       boxes_in_bounds = p.1.places;
       by_index = all-readable (ink_bit a.w a.s.now a.levels.now) (ink-small a.w a.s.now a.levels.now) a.w a.h
@@ -40,12 +37,11 @@ count_all-requires c =
 pub returns : goal.returns
 unfolding table_after counts_after
 returns c =
-    let k = c.check-no in
-    let none = c.if-no-ne0.false in
+    let k = c.in_ok-check in
     let a = c.args in
-    let p = k.ensures.passed none in
+    let p = k.ensures.passed refl in
     record {
-      number = sym none ∙ k.ensures.answer;
+      number = k.ensures.answer;
       table = c.fill_table.ensures;
       counts = c.count_all.ensures
           ∙ all-reads (ink_bit a.w a.s.now a.levels.now) (ink-small a.w a.s.now a.levels.now) a.w a.h

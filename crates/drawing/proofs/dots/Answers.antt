@@ -1,4 +1,4 @@
--- `drawing::dots` meets its contract. The loop's invariant: the first k points are drawn. The measure is how many are left.
+-- `drawing::dots` meets its contract. The loop's invariant: the first k points are drawn.
 -- Assumes nothing.
 use Prim.Native.Nat.{◌≤◌, ◌<◌}
 use native.Mathlib.Omega.{arith}

@@ -1,21 +1,18 @@
 -- `drawing::line` meets its contract. Assumes nothing.
-use mathlib.Core.Path.{◌∙◌}
+use mathlib.Core.Path.{refl, ◌∙◌}
+use Rattle.refusal.proofs.Numbers.{number-none}
 use Rattle.drawing.proofs.Pixels.{line-is, line_stays}
 use Rattle.drawing.proofs.line.Goals as goal
 
-pub returns-then-check_picture-ne0 : goal.returns-then-check_picture-ne0
-returns-then-check_picture-ne0 c =
-    let a = c.args in
-    let k = c.check_picture in
-    line_stays a.w a.h a.a a.b a.colour a.plane.now k.result k.ensures.answer c.if-check_picture-ne0.true
-
 pub dots-requires : goal.dots-requires
-dots-requires c = c.check_picture.ensures.passed c.if-check_picture-ne0.false
+dots-requires c = c.in-Ok.ensures.passed refl
 
-pub returns : goal.returns
-returns c =
+pub returns-in-Ok : goal.returns-in-Ok
+returns-in-Ok c =
     let a = c.args in
-    let k = c.check_picture in
-    c.dots.ensures
-    ∙ line-is a.w a.h a.a a.b a.colour a.plane.now k.result k.ensures.answer
-    c.if-check_picture-ne0.false
+    c.dots.ensures ∙ line-is a.w a.h a.a a.b a.colour a.plane.now 0 c.in-Ok.ensures.answer refl
+
+pub returns-in-Err : goal.returns-in-Err
+returns-in-Err c =
+    let a = c.args in
+    line_stays a.w a.h a.a a.b a.colour a.plane.now _ c.in-Err.ensures.answer (number-none _)

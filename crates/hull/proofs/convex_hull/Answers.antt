@@ -5,7 +5,7 @@ use lib.Dec.{leb}
 use lib.ListN.{length}
 use borrow.Author.Rules.{rules}
 use borrow.Author.Tests.{le-leb, lt-leb}
-use Rattle.hull.specs.declared.Hulled.TheVariants.{Vertices}
+use Rattle.laws.specs.Said.{give}
 use Rattle.hull.proofs.convex_hull.Goals as goal
 
 pub returns-then-out-p : goal.returns-then-out-p
@@ -21,4 +21,4 @@ returns c =
     let room : leb (length a.p.now) (length a.out.now) ≡ true
     = le-leb (length a.p.now) (length a.out.now) (search rules) in
     let walked = c.convex_hull.ensures in
-    rw room (record { answer = ap Vertices walked.answer; out = walked.out })
+    rw room (record { answer = ap give walked.answer; out = walked.out })

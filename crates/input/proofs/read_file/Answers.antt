@@ -1,4 +1,5 @@
 -- `input::read_file` meets its contract: by the letters, then by what `find` says of the bytes that were read. Assumes nothing.
+use Rattle.refusal.specs.Numbers.{said}
 use lib.ListN.{length}
 use Prim.Native.Nat.{◌≤◌}
 use native.Mathlib.Omega.{arith}
@@ -52,7 +53,7 @@ returns c =
     ∙ sym c.has_letters.ensures
     ∙ c.if-not-has_letters.false in
     let long : r.result ≤ length r.new.bytes = omega (arith, r.ensures.bounds.1, r.auto.bytes, p.auto.bytes, c.requires.most_in_bounds) in
-    let f = all_read most r.new.bytes r.result c.find.result letters long r.ensures.most c.find.ensures in
+    let f = all_read most r.new.bytes r.result (said c.find.result) letters long r.ensures.most c.find.ensures in
     record {
       bytes = f;
       pictured = pictured most _ _ f;

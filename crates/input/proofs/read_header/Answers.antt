@@ -1,76 +1,62 @@
--- `input::read_header` meets its contract. The loop's invariant: the bytes up to the header's place lead to it. The measure is how far
--- that place is from 4,096. Assumes nothing.
-use mathlib.Core.Path.{sym, ap, ◌∙◌}
+-- `input::read_header` meets its contract. The loop's invariant: the bytes up to the header's place, which is the loop's, lead to it. Assumes
+-- nothing.
+use mathlib.Core.Path.{◌≡◌, sym, ap, ◌∙◌}
+use mathlib.Core.List.{List}
+use lib.ListN.{take, get_or}
+use Prim.Native.Nat.{ℕ, ◌+◌, ◌<◌}
 use native.Mathlib.Omega.{arith}
+use Rattle.pgm.specs.Steps.{stepped}
 use Rattle.pgm.specs.declared.steps.Reading.{Reading}
 use Rattle.pgm.proofs.Counted.{step_counts}
 use Rattle.input.proofs.Reading.{header-begin, header-same, header-more}
 use Rattle.input.proofs.read_header.Goals as goal
 
-pub loop-h-init : goal.loop-h-init
-loop-h-init c = header-begin c.args.bytes.now c.begin-h.result c.begin-h.ensures
+-- what stays before a place, by the header's place
+before : (n k : ℕ) (l l' : List ℕ) → n ≡ k → take k l' ≡ take k l → take n l' ≡ take n l
+before n k l l' e same = rw e same
 
-pub shape_of-bytes-then-ended : goal.shape_of-bytes-then-ended
-shape_of-bytes-then-ended c = c.loop-h.invariant.room
+pub loop-at-init : goal.loop-at-init
+loop-at-init c =
+    (header-begin c.args.bytes.now c.begin-h.result c.begin-h.ensures, ap (λ (h : Reading). h.at) c.begin-h.ensures)
 
 pub returns-then-ended : goal.returns-then-ended
 returns-then-ended c =
-    let r = c.loop-h.invariant in
+    let r = c.loop-at.invariant.0 in
     record {
       bounds = (r.from, r.upto);
       bytes = r.is;
       letters = r.letters;
     }
 
-pub read_part-requires : goal.read_part-requires
-read_part-requires c =
-    let r = c.loop-h.invariant in
-    omega (arith, r.room, r.upto, c.requires)
-
 pub shape_of-bytes-then-read_part-lt1 : goal.shape_of-bytes-then-read_part-lt1
-shape_of-bytes-then-read_part-lt1 c =
-    c.read_part.auto.bytes
-    ∙ c.loop-h.invariant.room
+shape_of-bytes-then-read_part-lt1 c = c.read_part.auto.bytes ∙ c.loop-at.auto.bytes
 
 pub returns-then-read_part-lt1 : goal.returns-then-read_part-lt1
 returns-then-read_part-lt1 c =
     let p = c.read_part in
-    let so_far = c.loop-h.invariant in
-    let r = header-same so_far p.new.bytes p.ensures.bytes p.auto.bytes in
+    let q = c.loop-at in
+    let r = header-same q.invariant.0 p.new.bytes (before _ _ _ _ q.invariant.1 p.ensures.bytes) p.auto.bytes in
     record {
       bounds = (r.from, r.upto);
       bytes = r.is;
       letters = r.letters;
     }
 
-pub bounds-bytes-at : goal.bounds-bytes-at
-bounds-bytes-at c =
-    let r = c.loop-h.invariant in
-    let near = c.loop-h-test.true in
-    omega (arith, c.read_part.auto.bytes, r.room, c.requires, near)
-
-pub loop-h-smaller : goal.loop-h-smaller
-loop-h-smaller c =
-    let h = c.loop-h.h in
-    let near = c.loop-h-test.true in
-    let goes = sym c.ended.ensures ∙ c.if-ended.false in
-    let z = ap (λ (h : Reading). h.at) c.step-h.ensures ∙ step_counts h _ goes near in
-    omega (arith, z, near)
-
-pub loop-h-preserved : goal.loop-h-preserved
-loop-h-preserved c =
-    let so_far = c.loop-h.invariant in
-    let near = c.loop-h-test.true in
+pub loop-at-preserved : goal.loop-at-preserved
+loop-at-preserved c =
+    let q = c.loop-at in
+    let near : q.h.at < 4096 = omega arith in
     let goes = sym c.ended.ensures ∙ c.if-ended.false in
     let p = c.read_part in
-    header-more so_far p.new.bytes p.ensures.bytes p.auto.bytes goes near c.requires c.step-h.result c.step-h.ensures
-
-pub shape_of-bytes : goal.shape_of-bytes
-shape_of-bytes c = c.loop-h.invariant.room
+    let e = c.step-h.ensures ∙ ap (λ (n : ℕ). stepped q.h (get_or p.new.bytes n 0)) (sym q.invariant.1) in (
+      header-more q.invariant.0 p.new.bytes (before _ _ _ _ q.invariant.1 p.ensures.bytes) p.auto.bytes goes near c.requires
+          c.step-h.result e,
+      ap (λ (h : Reading). h.at) c.step-h.ensures ∙ step_counts q.h _ goes near ∙ ap (λ (n : ℕ). n + 1) q.invariant.1,
+    )
 
 pub returns : goal.returns
 returns c =
-    let r = c.loop-h.invariant in
+    let r = c.loop-at.invariant.0 in
     record {
       bounds = (r.from, r.upto);
       bytes = r.is;

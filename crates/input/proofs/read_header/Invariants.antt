@@ -1,11 +1,8 @@
--- `input::read_header` meets its contract. The loop's invariant: the bytes up to the header's place lead to it. The measure is how far
--- that place is from 4,096. Assumes nothing.
-use Prim.Native.Nat.{◌-◌}
+-- `input::read_header` meets its contract. The loop's invariant: the bytes up to the header's place, which is the loop's, lead to it. Assumes
+-- nothing.
+use mathlib.Core.Path.{◌≡◌}
 use Rattle.input.proofs.Reading.{HeaderRead}
 use Rattle.input.proofs.read_header.Given as goal
 
-abbrev pub invariant-loop-h : goal.invariant-loop-h
-invariant-loop-h l = HeaderRead l.initial.bytes l.bytes l.h
-
-abbrev pub decreases-loop-h : goal.decreases-loop-h
-decreases-loop-h l = 4096 - l.h.at
+abbrev pub invariant-loop-at : goal.invariant-loop-at
+invariant-loop-at l = HeaderRead l.initial.bytes l.bytes l.h × (l.h.at ≡ l.at)

@@ -3,18 +3,16 @@ use Rattle.math.proofs.Doors.{zeros-length, take-zeros, fit_low, fit-high, fit-l
 use lib.ListN.{length}
 use native.Mathlib.Omega.{arith}
 use Prim.Native.Nat.{◌≤◌, ◌*◌}
-use mathlib.Core.Path.{◌∙◌}
 use Rattle.math.proofs.least_squares.Goals as goal
 
 pub returns-then-n-lt1 : goal.returns-then-n-lt1
 returns-then-n-lt1 c =
-    let s = c.args in c.refused.ensures
-    ∙ fit_low s.n s.basis.now s.targets.now c.if-n-lt1.true
+    let s = c.args in fit_low s.n s.basis.now s.targets.now c.if-n-lt1.true
 
 pub returns-then-n-gt8 : goal.returns-then-n-gt8
 returns-then-n-gt8 c =
     let s = c.args in
-    c.refused-then-n-gt8.ensures ∙ fit-high s.n s.basis.now s.targets.now c.if-n-gt8.true
+    fit-high s.n s.basis.now s.targets.now c.if-n-gt8.true
 
 pub returns-then-basis-n-ne0 : goal.returns-then-basis-n-ne0
 returns-then-basis-n-ne0 c =
@@ -22,7 +20,7 @@ returns-then-basis-n-ne0 c =
     let l : 1 ≤ s.n = omega arith in
     let h : s.n ≤ 8 = omega arith in
     let no = not-whole (length s.basis.now) s.n (length s.targets.now) c.if-basis-n-ne0.true in
-    c.refused-then-basis-n-ne0.ensures ∙ fit-lengths s.n s.basis.now s.targets.now l h no
+    fit-lengths s.n s.basis.now s.targets.now l h no
 
 pub returns-then-basis-n : goal.returns-then-basis-n
 returns-then-basis-n c =
@@ -30,7 +28,7 @@ returns-then-basis-n c =
     let l : 1 ≤ s.n = omega arith in
     let h : s.n ≤ 8 = omega arith in
     let no = not-many (length s.basis.now) s.n (length s.targets.now) l c.if-basis-n.true in
-    c.refused-then-basis-n.ensures ∙ fit-lengths s.n s.basis.now s.targets.now l h no
+    fit-lengths s.n s.basis.now s.targets.now l h no
 
 pub returns-then-targets-n : goal.returns-then-targets-n
 returns-then-targets-n c =

@@ -1,6 +1,8 @@
 -- `math::solve` meets its contract: each check of the door has its case of `solve_answer`. Assumes nothing.
 use Rattle.math.proofs.Doors.{solve-low, solve-high, solve-matrix, solve-right, solve-pass, square8}
-use Rattle.math.specs.Answers.{solution_said}
+use Rattle.std.proofs.Common.{Option, Ok, List}
+use Rattle.std.specs.Prelude.{Float}
+use Rattle.refusal.specs.Numbers.{said_some}
 use lib.ListN.{length}
 use native.Mathlib.Omega.{arith}
 use Prim.Native.Nat.{◌≤◌, ◌*◌}
@@ -10,13 +12,12 @@ use Rattle.math.proofs.solve.Goals as goal
 
 pub returns-then-n-lt1 : goal.returns-then-n-lt1
 returns-then-n-lt1 c =
-    let s = c.args in c.refused.ensures
-    ∙ solve-low s.n s.a.now s.b.now c.if-n-lt1.true
+    let s = c.args in solve-low s.n s.a.now s.b.now c.if-n-lt1.true
 
 pub returns-then-n-gt8 : goal.returns-then-n-gt8
 returns-then-n-gt8 c =
     let s = c.args in
-    c.refused-then-n-gt8.ensures ∙ solve-high s.n s.a.now s.b.now c.if-n-gt8.true
+    solve-high s.n s.a.now s.b.now c.if-n-gt8.true
 
 pub overflow_mul-n : goal.overflow_mul-n
 overflow_mul-n c =
@@ -30,14 +31,14 @@ returns-then-a-n c =
     let s = c.args in
     let l : 1 ≤ s.n = omega arith in
     let h : s.n ≤ 8 = omega arith in
-    c.refused-then-a-n.ensures ∙ solve-matrix s.n s.a.now s.b.now l h c.if-a-n.true
+    solve-matrix s.n s.a.now s.b.now l h c.if-a-n.true
 
 pub returns-then-b-n : goal.returns-then-b-n
 returns-then-b-n c =
     let s = c.args in
     let l : 1 ≤ s.n = omega arith in
     let h : s.n ≤ 8 = omega arith in
-    c.refused-then-b-n.ensures ∙ solve-right s.n s.a.now s.b.now l h c.if-b-n.true
+    solve-right s.n s.a.now s.b.now l h c.if-b-n.true
 
 pub returns : goal.returns
 returns c =
@@ -46,4 +47,4 @@ returns c =
     let h : s.n ≤ 8 = omega arith in
     let a : length s.a.now ≡ s.n * s.n = search rules in
     let b : length s.b.now ≡ s.n = search rules in
-    ap solution_said c.on_copies.ensures ∙ solve-pass s.n s.a.now s.b.now l h a b
+    ap (λ (r : Option (List Float)). said_some (Ok r)) c.on_copies.ensures ∙ solve-pass s.n s.a.now s.b.now l h a b

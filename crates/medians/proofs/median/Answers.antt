@@ -26,9 +26,6 @@ returns-then-not-all_fit c =
       refl,
     )
 
-pub middle-requires : goal.middle-requires
-middle-requires c = c.all_fit.ensures.1 c.if-not-all_fit.false
-
 pub returns : goal.returns
 unfolding median_answer
 returns c =

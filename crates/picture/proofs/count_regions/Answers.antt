@@ -10,9 +10,6 @@ use Rattle.regions.proofs.Listing.{regions-listed}
 use Rattle.labels.specs.Cells.{cells_of}
 use Rattle.picture.proofs.count_regions.Goals as goal
 
-pub slice_bounds-regions-end : goal.slice_bounds-regions-end
-slice_bounds-regions-end c = sym (length-take-le _ _ (omega arith))
-
 pub slice_bounds-regions-end-2 : goal.slice_bounds-regions-end-2
 slice_bounds-regions-end-2 c =
     let p = c.requires in

@@ -1,19 +1,8 @@
 -- The level grid gives the marks and these the labels (levelled-of, mapped). Assumes nothing.
-use native.Mathlib.Nat.{le_trans}
-use native.Mathlib.Omega.{arith}
 use Rattle.laws.proofs.Past.{past_more, past-then}
-use Rattle.labels.proofs.InkCells.{cells-few}
 use Rattle.labels.specs.Cells.{cells_of}
 use Rattle.picture.proofs.Outcomes.{level-cells-few, levelled-of, mapped}
 use Rattle.picture.proofs.ink_map.Goals as goal
-
-pub level_grid-requires : goal.level_grid-requires
-level_grid-requires c =
-    let few = level-cells-few c.args.w c.args.h in
-    record {
-      picture = c.requires.picture;
-      level_rooms = record { grids = c.requires.list_rooms.grids; first = le_trans few c.requires.list_rooms.label; second = le_trans few c.requires.list_rooms.room };
-    }
 
 pub mark_cells-requires : goal.mark_cells-requires
 mark_cells-requires c =
@@ -22,17 +11,6 @@ mark_cells-requires c =
       levelled = levelled-of c.args.grid.now c.requires.picture g.ensures.grid (rw g.auto.grid c.requires.list_rooms.grids);
       h_in_bounds = rw g.auto.darks c.requires.list_rooms.label;
     }
-
-pub label_all-requires : goal.label_all-requires
-label_all-requires c =
-    let m = c.mark_cells in
-    let g = c.level_grid in
-    rw (c.region_cells-2.ensures, c.region_cells.ensures) (
-      rw (m.auto.labels, g.auto.darks) c.requires.list_rooms.label,
-      rw g.auto.lights c.requires.list_rooms.room,
-      cells-few c.requires.picture.w-high c.requires.picture.h-high,
-      omega (arith, c.requires.picture.w-low),
-    )
 
 pub returns : goal.returns
 returns c =

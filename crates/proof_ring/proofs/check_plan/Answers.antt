@@ -33,24 +33,24 @@ returns-then-corner-gt3 c =
 
 pub overflow_mul-least : goal.overflow_mul-least
 overflow_mul-least c =
-    let s = c.side.ensures in
+    let s = c.side.ensures.answer in
     omega (
       arith,
-      c.requires.greatest,
+      c.side.ensures.version.greatest,
       mul-le-mul {n₁ = c.side.result + 10} {m₁ = c.args.pitch} {n₂ = 283} {m₂ = 16} (omega arith) (omega arith),
     )
 
 pub returns-then-w-least : goal.returns-then-w-least
 returns-then-w-least c =
     let a = c.args in
-    let e = ap (λ (s : ℕ). (s + 10) * a.pitch) c.side.ensures in
-    let l : a.w < least_side a.version.0 a.pitch = omega (arith, e, c.if-w-least.true) in
+    let e = ap (λ (s : ℕ). (s + 10) * a.pitch) c.side.ensures.answer in
+    let l : a.w < least_side a.version a.pitch = omega (arith, e, c.if-w-least.true) in
     record {
       answer = simp (
         le-leb 1 a.pitch (omega arith),
         le-leb a.pitch 16 (omega arith),
         le-leb a.corner 3 (omega arith),
-        lt-leb (least_side a.version.0 a.pitch) a.w l,
+        lt-leb (least_side a.version a.pitch) a.w l,
       );
       passed = λ e. absurd (omega arith);
     }
@@ -58,16 +58,16 @@ returns-then-w-least c =
 pub returns-then-h-least : goal.returns-then-h-least
 returns-then-h-least c =
     let a = c.args in
-    let e = ap (λ (s : ℕ). (s + 10) * a.pitch) c.side.ensures in
-    let k : least_side a.version.0 a.pitch ≤ a.w = omega (arith, e, c.if-w-least.false) in
-    let l : a.h < least_side a.version.0 a.pitch = omega (arith, e, c.if-h-least.true) in
+    let e = ap (λ (s : ℕ). (s + 10) * a.pitch) c.side.ensures.answer in
+    let k : least_side a.version a.pitch ≤ a.w = omega (arith, e, c.if-w-least.false) in
+    let l : a.h < least_side a.version a.pitch = omega (arith, e, c.if-h-least.true) in
     record {
       answer = simp (
         le-leb 1 a.pitch (omega arith),
         le-leb a.pitch 16 (omega arith),
         le-leb a.corner 3 (omega arith),
-        le-leb (least_side a.version.0 a.pitch) a.w k,
-        lt-leb (least_side a.version.0 a.pitch) a.h l,
+        le-leb (least_side a.version a.pitch) a.w k,
+        lt-leb (least_side a.version a.pitch) a.h l,
       );
       passed = λ e. absurd (omega arith);
     }
@@ -75,16 +75,16 @@ returns-then-h-least c =
 pub returns : goal.returns
 returns c =
     let a = c.args in
-    let e = ap (λ (s : ℕ). (s + 10) * a.pitch) c.side.ensures in
-    let k : least_side a.version.0 a.pitch ≤ a.w = omega (arith, e, c.if-w-least.false) in
-    let l : least_side a.version.0 a.pitch ≤ a.h = omega (arith, e, c.if-h-least.false) in
+    let e = ap (λ (s : ℕ). (s + 10) * a.pitch) c.side.ensures.answer in
+    let k : least_side a.version a.pitch ≤ a.w = omega (arith, e, c.if-w-least.false) in
+    let l : least_side a.version a.pitch ≤ a.h = omega (arith, e, c.if-h-least.false) in
     record {
       answer = simp (
         le-leb 1 a.pitch (omega arith),
         le-leb a.pitch 16 (omega arith),
         le-leb a.corner 3 (omega arith),
-        le-leb (least_side a.version.0 a.pitch) a.w k,
-        le-leb (least_side a.version.0 a.pitch) a.h l,
+        le-leb (least_side a.version a.pitch) a.w k,
+        le-leb (least_side a.version a.pitch) a.h l,
       );
       passed = λ e. record { pitch-low = omega arith; pitch-high = omega arith; corner = omega arith; wide = k; high = l };
     }

@@ -8,9 +8,6 @@ use Rattle.text.proofs.+put_digits.Goals as goal
 pub returns-then-digits-eq0 : goal.returns-then-digits-eq0
 returns-then-digits-eq0 t c = last_end c.args.at c.args.digits c.args.n _ c.if-digits-eq0.true
 
-pub put_digits-next-requires : goal.put_digits-next-requires
-put_digits-next-requires t c = (omega (arith, c.requires), omega arith)
-
 pub put_byte-requires : goal.put_byte-requires
 put_byte-requires t c =
     let a = c.args in

@@ -8,9 +8,6 @@ use Rattle.text.proofs.+put_hex.Goals as goal
 pub returns-then-digits-eq0 : goal.returns-then-digits-eq0
 returns-then-digits-eq0 t c = hex-end c.args.at c.args.digits c.args.n _ c.if-digits-eq0.true
 
-pub put_hex-a-requires : goal.put_hex-a-requires
-put_hex-a-requires t c = (omega (arith, c.requires), omega arith)
-
 pub put_byte-requires : goal.put_byte-requires
 put_byte-requires t c =
     let a = c.args in

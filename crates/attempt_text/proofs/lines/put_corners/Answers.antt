@@ -15,6 +15,6 @@ pub returns : goal.returns
 returns c =
     let e = c.put_quad.ensures in
     record {
-      out = some-corners c.args.c _ c.in-Found.is e.out;
+      out = some-corners c.args.c _ c.in-Some.is e.out;
       most = omega (arith, e.most);
     }

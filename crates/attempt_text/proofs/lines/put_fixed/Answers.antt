@@ -19,6 +19,6 @@ returns c =
     let w = c.put_word-w.ensures in
     let e = c.put_ring.ensures in
     record {
-      out = some-ring a.word.now a.f w _ c.in-At.is e.out;
+      out = some-ring a.word.now a.f w _ c.in-Some.is e.out;
       most = omega (arith, w.next, e.most);
     }

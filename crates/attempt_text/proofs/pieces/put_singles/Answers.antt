@@ -1,36 +1,35 @@
--- `attempt_text::pieces::put_singles` meets its contract. The loop's invariant: the first i floats are stored, with nine bytes for each at
--- most. The measure is what is left of the list. Assumes nothing.
+-- `attempt_text::pieces::put_singles` meets its contract. The loop's invariant: the first i floats are stored, with nine bytes for each at most. Assumes nothing.
 use Rattle.attempt_text.proofs.Parts.{each-begin, each_turn, each-end}
 use Rattle.attempt_text.specs.Traced.{single}
 use Rattle.laws.proofs.Stores.{stored-length}
 use native.Mathlib.Omega.{arith}
 use Rattle.attempt_text.proofs.pieces.put_singles.Goals as goal
 
-pub loop-i-init : goal.loop-i-init
-loop-i-init c =
+pub loop-x-init : goal.loop-x-init
+loop-x-init c =
     let a = c.args in
-    (omega arith, each-begin single a.xs.now a.at a.out.now, omega arith)
+    (each-begin single a.xs.now a.at a.out.now, omega arith)
 
 pub put_single-to-requires : goal.put_single-to-requires
 put_single-to-requires c =
-    let q = c.loop-i in
-    omega (arith, q.invariant.2, stored-length q.invariant.1, c.requires)
+    let q = c.loop-x in
+    omega (arith, q.invariant.1, stored-length q.invariant.0, c.requires)
 
-pub loop-i-preserved : goal.loop-i-preserved
-loop-i-preserved c =
+pub loop-x-preserved : goal.loop-x-preserved
+loop-x-preserved c =
     let a = c.args in
-    let q = c.loop-i in
+    let q = c.loop-x in
     let p = c.put_single-to in
-    (omega arith, each_turn single a.xs.now q.i (omega arith) q.invariant.1 p.ensures.out, omega (arith, p.ensures.most, q.invariant.2))
+    (each_turn single a.xs.now q.x-index (omega arith) q.invariant.0 p.ensures.out, omega (arith, p.ensures.most, q.invariant.1))
 
 pub shape_of-out : goal.shape_of-out
-shape_of-out c = stored-length c.loop-i.invariant.1
+shape_of-out c = stored-length c.loop-x.invariant.0
 
 pub returns : goal.returns
 returns c =
     let a = c.args in
-    let q = c.loop-i in
+    let q = c.loop-x in
     record {
-      out = each-end single a.xs.now q.i (omega arith) q.invariant.1;
-      most = omega (arith, q.invariant.2, q.invariant.0);
+      out = each-end single a.xs.now q.x-index (omega arith) q.invariant.0;
+      most = omega (arith, q.invariant.1);
     }

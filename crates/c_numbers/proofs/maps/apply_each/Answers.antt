@@ -1,5 +1,5 @@
 -- `c_numbers::maps::apply_each` meets its contract.
--- The invariant: the pixels of the places so far are stored, `Laying`. The measure is how many places are left. Assumes nothing.
+-- The invariant: the pixels of the places so far are stored, `Laying`. Assumes nothing.
 use Rattle.laws.proofs.Laying.{laying-begin, laying-turn, laying-end}
 use Rattle.c_numbers.proofs.Handed.{pixels-laid}
 use Rattle.c_numbers.proofs.maps.apply_each.Goals as goal

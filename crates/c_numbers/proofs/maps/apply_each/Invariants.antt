@@ -1,12 +1,8 @@
 -- `c_numbers::maps::apply_each` meets its contract.
--- The invariant: the pixels of the places so far are stored, `Laying`. The measure is how many places are left. Assumes nothing.
-use Prim.Native.Nat.{◌-◌}
+-- The invariant: the pixels of the places so far are stored, `Laying`. Assumes nothing.
 use Rattle.laws.proofs.Laying.{Laying}
 use Rattle.c_numbers.specs.Maps.{pixel_at}
 use Rattle.c_numbers.proofs.maps.apply_each.Given as goal
 
 abbrev pub invariant-loop-i : goal.invariant-loop-i
 invariant-loop-i l = Laying 2 l.n (pixel_at l.t l.uv) l.initial.xy l.xy l.i
-
-abbrev pub decreases-loop-i : goal.decreases-loop-i
-decreases-loop-i l = l.n - l.i

@@ -1,6 +1,5 @@
--- The first i counts are written, each from four reads; the measure is the boxes left. Assumes nothing.
+-- The first i counts are written, each from four reads. Assumes nothing.
 use mathlib.Core.Path.{◌≡◌}
-use Prim.Native.Nat.{◌-◌, ◌≤◌}
 use lib.ListN.{length}
 use Rattle.laws.specs.Fold.{written}
 use Rattle.darkness.specs.Inner.{reads_of}
@@ -8,7 +7,4 @@ use Rattle.darkness.proofs.counts.count_all.Given as goal
 
 abbrev pub invariant-loop-i : goal.invariant-loop-i
 invariant-loop-i l =
-    (l.i ≤ l.n) × (length l.counts ≡ length l.initial.counts) × (l.counts ≡ written l.i (reads_of l.table l.w l.boxes) l.initial.counts)
-
-abbrev pub decreases-loop-i : goal.decreases-loop-i
-decreases-loop-i l = l.n - l.i
+    (length l.counts ≡ length l.initial.counts) × (l.counts ≡ written l.i (reads_of l.table l.w l.boxes) l.initial.counts)

@@ -1,4 +1,4 @@
--- The first i boxes are not bad; the measure is the boxes left. Assumes nothing.
+-- The first i boxes are not bad. Assumes nothing.
 use mathlib.Core.Bool.{false}
 use mathlib.Core.Path.{◌∙◌, ◌≡◌}
 use Prim.Native.Nat.{◌/◌}
@@ -8,9 +8,6 @@ use Rattle.laws.proofs.Stores.{below_next}
 use Rattle.darkness.proofs.Checks.{bad-is, none-bad, some-bad}
 use Rattle.darkness.specs.Door.{is_bad_box}
 use Rattle.darkness.proofs.refusals.boxes_fit.Goals as goal
-
-pub loop-i-init : goal.loop-i-init
-loop-i-init c = (omega arith, λ j l. absurd (omega arith))
 
 pub returns-then-is_bad : goal.returns-then-is_bad
 returns-then-is_bad c =
@@ -24,14 +21,12 @@ pub loop-i-preserved : goal.loop-i-preserved
 loop-i-preserved c =
     let at = c.loop-i in
     let a = c.args in
-    let boxes = a.boxes.now in (
-      omega arith,
-      below_next (λ j. is_bad_box a.w a.h boxes j ≡ false) at.i at.invariant.1
-          (bad-is a.w a.h boxes at.i c.box_at.ensures c.is_bad.ensures ∙ c.if-is_bad.false),
-    )
+    let boxes = a.boxes.now in
+    below_next (λ j. is_bad_box a.w a.h boxes j ≡ false) at.i at.invariant
+    (bad-is a.w a.h boxes at.i c.box_at.ensures c.is_bad.ensures ∙ c.if-is_bad.false)
 
 pub returns : goal.returns
 returns c =
     let a = c.args in
     let boxes = a.boxes.now in
-    none-bad (is_bad_box a.w a.h boxes) (length boxes / 4) (λ i l. c.loop-i.invariant.1 i (omega arith))
+    none-bad (is_bad_box a.w a.h boxes) (length boxes / 4) (λ i l. c.loop-i.invariant i (omega arith))

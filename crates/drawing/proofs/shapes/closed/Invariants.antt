@@ -1,12 +1,8 @@
--- `drawing::shapes::closed` meets its contract. The loop's invariant: the plane keeps its length. The measure is how many lines are left.
+-- `drawing::shapes::closed` meets its contract. The loop's invariant: the plane keeps its length.
 -- Assumes nothing.
 use lib.ListN.{length}
 use mathlib.Core.Path.{◌≡◌}
-use Prim.Native.Nat.{◌-◌}
 use Rattle.drawing.proofs.shapes.closed.Given as goal
 
 abbrev pub invariant-loop-i : goal.invariant-loop-i
 invariant-loop-i l = length l.plane ≡ length l.initial.plane
-
-abbrev pub decreases-loop-i : goal.decreases-loop-i
-decreases-loop-i l = l.n - l.i

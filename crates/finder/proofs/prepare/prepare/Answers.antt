@@ -1,38 +1,41 @@
 -- `finder::prepare::prepare` meets its contract: a refusal has touched nothing, else the picture door has done all. Assumes nothing.
-use mathlib.Core.Path.{sym, ◌∙◌}
+use mathlib.Core.Path.{sym}
 use lib.ListN.{length}
+use Rattle.std.proofs.lemmas.Result.{err_from_is_err_and}
+use Rattle.refusal.proofs.Numbers.{number-none}
 use Rattle.finder.proofs.Passing.{passed, refused-levels, refused-labels, refused-stack}
-use Rattle.finder.proofs.Prepared.{prepared-refused, refused-number, prepared-given, ready}
+use Rattle.finder.proofs.Prepared.{prepared-refused, prepared-given, ready}
 use Rattle.finder.proofs.prepare.prepare.Goals as goal
 
-pub returns-then-n-ne0 : goal.returns-then-n-ne0
-returns-then-n-ne0 c =
+pub returns-in_err-check : goal.returns-in_err-check
+returns-in_err-check c =
     let a = c.args in
-    let k = c.check-n in
-    let r = c.refusal in
-    let some = c.if-n-ne0.true in
-    let m = refused-number k.result r.result r.ensures in
+    let q = c.in_err-check in
+    let p = err_from_is_err_and c.from_residual.result c.from_residual.ensures.1 in
+    let some = number-none q.field-0.0 in
+    rw (p.1, p.2) (
     record {
-      answer = prepared-refused k.result _ _ r.result r.ensures k.ensures some;
-      levels = refused-levels a.gray.now a.levels.now a.w a.h k.result some _ m;
-      labels = refused-labels a.gray.now a.labels.now a.w a.h k.result some _ m;
-      stack = refused-stack a.gray.now a.stack.now a.w a.h k.result some _ m;
-      ready = λ z. absurd (some (sym m ∙ z));
+      answer = prepared-refused _ _ _ q.ensures some;
+      levels = refused-levels a.gray.now a.levels.now a.w a.h _ some;
+      labels = refused-labels a.gray.now a.labels.now a.w a.h _ some;
+      stack = refused-stack a.gray.now a.stack.now a.w a.h _ some;
+      ready = λ k e. cc;
     }
+    )
 
 pub returns : goal.returns
 returns c =
     let a = c.args in
     let l = a.l in
     let o = c.picture in
-    let z = sym c.check-n.ensures ∙ c.if-n-ne0.false in
+    let z = sym c.in_ok-check.ensures in
     let p = passed a.w a.h (length a.gray.now) (length a.levels.now) (length a.labels.now) (length a.stack.now)
     l.points l.straight l.cand l.buf a.most z in
     record {
-      answer = prepared-given _ _ _ o.result o.ensures.answer p.grids z;
+      answer = prepared-given _ _ _ _ o.ensures.answer p.grids z;
       levels = o.ensures.levels;
       labels = o.ensures.labels;
       stack = o.ensures.stack;
-      ready = λ _. ready a.gray.now a.levels.now a.labels.now _ _ a.w a.h (length a.stack.now) a.most l
+      ready = ready a.gray.now a.levels.now a.labels.now _ _ a.w a.h (length a.stack.now) a.most l
           o.result o.ensures.answer z o.auto.grid o.auto.labels o.ensures.levels o.ensures.labels;
     }

@@ -1,6 +1,5 @@
 -- `finder::tries::try_all` meets its contract. Invariant: the trace is the one that stands after i tries, and the four lists are untouched
--- past
--- the places needed. The measure is what is left of the tries. Assumes nothing.
+-- past the places needed. Assumes nothing.
 use native.Mathlib.Omega.{arith}
 use Rattle.laws.specs.Plane.{plane}
 use Rattle.finder.proofs.Regions.{kept-four, tries-is, worked-none, worked_then, roomy-then}
@@ -11,7 +10,7 @@ pub tries_of-n-requires : goal.tries_of-n-requires
 tries_of-n-requires c = let a = c.args in kept-four (plane a.w a.gray.now) a.w a.h a.k c.requires.k_value
 
 pub loop-i-init : goal.loop-i-init
-loop-i-init c = (omega arith, best-begin _ _ c.short_trace-best.ensures, worked-none _ _ _ _ _)
+loop-i-init c = (best-begin _ _ c.short_trace-best.ensures, worked-none _ _ _ _ _)
 
 pub try_next-best-requires : goal.try_next-best-requires
 try_next-best-requires c =
@@ -22,27 +21,27 @@ try_next-best-requires c =
       gridded = p.gridded;
       k_value = p.k_value;
       most_bound = p.most_bound;
-      best_value = q.1;
-      roomy = roomy-then p.roomy q.2;
+      best_value = q.0;
+      roomy = roomy-then p.roomy q.1;
     }
 
 pub loop-i-preserved : goal.loop-i-preserved
 loop-i-preserved c =
     let q = c.loop-i.invariant in
     let t = c.try_next-best.ensures in
-    (omega arith, t.answer, worked_then q.2 t.points)
+    (t.answer, worked_then q.1 t.points)
 
 pub shape_of-points : goal.shape_of-points
-shape_of-points c = c.loop-i.invariant.2.first.same
+shape_of-points c = c.loop-i.invariant.1.first.same
 
 pub shape_of-straight : goal.shape_of-straight
-shape_of-straight c = c.loop-i.invariant.2.second.same
+shape_of-straight c = c.loop-i.invariant.1.second.same
 
 pub shape_of-cand : goal.shape_of-cand
-shape_of-cand c = c.loop-i.invariant.2.third.same
+shape_of-cand c = c.loop-i.invariant.1.third.same
 
 pub shape_of-buf : goal.shape_of-buf
-shape_of-buf c = c.loop-i.invariant.2.fourth.same
+shape_of-buf c = c.loop-i.invariant.1.fourth.same
 
 pub returns : goal.returns
 returns c =
@@ -51,7 +50,7 @@ returns c =
     let q = c.loop-i in
     let n = c.tries_of-n in
     record {
-      answer = best-end a.gray.now a.w a.h a.most q.i n.result q.best (omega (arith, q.invariant.0))
-          (tries-is (plane a.w a.gray.now) a.w a.h a.k p.k_value n.result n.ensures) q.invariant.1;
-      points = q.invariant.2;
+      answer = best-end a.gray.now a.w a.h a.most q.i n.result q.best (omega arith)
+          (tries-is (plane a.w a.gray.now) a.w a.h a.k p.k_value n.result n.ensures) q.invariant.0;
+      points = q.invariant.1;
     }

@@ -1,5 +1,5 @@
 -- `fit::consensus::agree` meets its contract. The invariant: the count is at most the points passed, and those of what is left, added to
--- it, are those of all. The measure is how many points are left. Assumes nothing.
+-- it, are those of all. Assumes nothing.
 use native.Mathlib.Omega.{arith}
 use borrow.Author.Rules.{rules}
 use Rattle.fit.proofs.Trials.{agree-begin, agree-step, agree-end}

@@ -1,5 +1,5 @@
 -- `fit::consensus::agree` meets its contract. The invariant: the count is at most the points passed, and those of what is left, added to
--- it, are those of all. The measure is how many points are left. Assumes nothing.
+-- it, are those of all. Assumes nothing.
 use mathlib.Core.Path.{◌≡◌}
 use Prim.Native.Nat.{◌≤◌, ◌-◌}
 use Rattle.fit.specs.Consensus.{agree_on, agree_of}
@@ -8,6 +8,3 @@ use Rattle.fit.proofs.consensus.agree.Given as goal
 abbrev pub invariant-loop-k : goal.invariant-loop-k
 invariant-loop-k l =
     (l.m ≤ l.k) × (l.k ≤ l.n) × (agree_on l.s l.px l.py l.fx l.fy (l.n - l.k) l.k l.m ≡ agree_of l.s l.px l.py l.fx l.fy)
-
-abbrev pub decreases-loop-k : goal.decreases-loop-k
-decreases-loop-k l = l.n - l.k

@@ -1,5 +1,4 @@
--- `fit::consensus::search` meets its contract. The invariant: a selection in progress, `Selecting`. The measure is how many points are
--- left. Assumes nothing.
+-- `fit::consensus::search` meets its contract. The invariant: a selection in progress, `Selecting`. Assumes nothing.
 use mathlib.Core.Path.{refl}
 use Rattle.fit.proofs.Selects.{selecting-begin, selecting-turn, selecting-end}
 use Rattle.fit.proofs.consensus.search.Goals as goal

@@ -1,5 +1,5 @@
 -- `fit::consensus::trials` meets its contract. The invariant: i and j are the places of trial k, and the trials that are left, from the
--- best so far, give the best of all. The measure is how many trials are left. Assumes nothing.
+-- best so far, give the best of all. Assumes nothing.
 use mathlib.Core.Path.{◌∙◌}
 use borrow.Author.Rules.{rules}
 use Rattle.fit.proofs.Trials.{trial-is, unmoved, strided, trials-step, trials-end}

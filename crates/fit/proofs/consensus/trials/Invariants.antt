@@ -1,5 +1,5 @@
 -- `fit::consensus::trials` meets its contract. The invariant: i and j are the places of trial k, and the trials that are left, from the
--- best so far, give the best of all. The measure is how many trials are left. Assumes nothing.
+-- best so far, give the best of all. Assumes nothing.
 use mathlib.Core.Path.{◌≡◌}
 use Prim.Native.Nat.{◌≤◌, ◌<◌, ◌-◌}
 use Rattle.fit.specs.Consensus.{first_at, second_at, trials_on, trials_of}
@@ -13,6 +13,3 @@ invariant-loop-k l =
     × (l.i < l.n)
     × (l.j ≡ second_at l.n l.k)
     × (l.j < l.n)
-
-abbrev pub decreases-loop-k : goal.decreases-loop-k
-decreases-loop-k l = 96 - l.k

@@ -21,7 +21,7 @@ returns c =
           c.next_hull_line-cd.ensures.answer
           c.next_hull_line-da.ensures.answer
           c.refined_at.ensures
-          c.or_quad.ensures;
+          c.unwrap_or.ensures;
       buf_past = past-then
           (past-then c.hull_line-ab.ensures.buf_past
           c.next_hull_line-bc.ensures.buf_past)

@@ -1,5 +1,5 @@
 -- `fit::line::scatter_about` meets its contract. The invariant: the scatter of what is left, added to that so far, is the scatter of all.
--- The measure is how many points are left. Assumes nothing.
+-- Assumes nothing.
 use Rattle.fit.proofs.Sums.{scatter-begin, scatter-step, scatter-end}
 use Rattle.fit.proofs.line.scatter_about.Goals as goal
 

@@ -1,5 +1,5 @@
 -- `fit::line::scatter_about` meets its contract. The invariant: the scatter of what is left, added to that so far, is the scatter of all.
--- The measure is how many points are left. Assumes nothing.
+-- Assumes nothing.
 use mathlib.Core.Path.{◌≡◌}
 use Prim.Native.Nat.{◌-◌}
 use Rattle.fit.specs.Line.{scatter_on, scatter_of}
@@ -7,6 +7,3 @@ use Rattle.fit.proofs.line.scatter_about.Given as goal
 
 abbrev pub invariant-loop-k : goal.invariant-loop-k
 invariant-loop-k l = scatter_on l.s l.m (l.n - l.k) l.k l.t ≡ scatter_of l.s l.m
-
-abbrev pub decreases-loop-k : goal.decreases-loop-k
-decreases-loop-k l = l.n - l.k

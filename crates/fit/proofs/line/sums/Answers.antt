@@ -1,5 +1,5 @@
--- `fit::line::sums` meets its contract. The invariant: the sums of what is left, added to those so far, are the sums of all. The measure
--- is how many points are left. Assumes nothing.
+-- `fit::line::sums` meets its contract. The invariant: the sums of what is left, added to those so far, are the sums of all. Assumes
+-- nothing.
 use mathlib.Core.Path.{refl, ap, ◌∙◌}
 use lib.Ieee.{Float}
 use borrow.Author.Rules.{rules}

@@ -1,5 +1,5 @@
--- `fit::line::sums` meets its contract. The invariant: the sums of what is left, added to those so far, are the sums of all. The measure
--- is how many points are left. Assumes nothing.
+-- `fit::line::sums` meets its contract. The invariant: the sums of what is left, added to those so far, are the sums of all. Assumes
+-- nothing.
 use mathlib.Core.Path.{◌≡◌}
 use Prim.Native.Nat.{◌≤◌, ◌-◌}
 use Rattle.fit.specs.Line.{sums_on}
@@ -7,6 +7,3 @@ use Rattle.fit.proofs.line.sums.Given as goal
 
 abbrev pub invariant-loop-k : goal.invariant-loop-k
 invariant-loop-k l = (1 ≤ l.n) × (sums_on l.s (l.n - l.k) l.k l.t ≡ sums_on l.s (l.n - 1) 1 l.initial.t)
-
-abbrev pub decreases-loop-k : goal.decreases-loop-k
-decreases-loop-k l = l.n - l.k

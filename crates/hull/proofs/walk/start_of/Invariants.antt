@@ -1,7 +1,7 @@
 -- `hull::walk::start_of` meets its contract. The loop's invariant: best is a point, and the search over the points from i on gives the
--- first vertex. The measure is the number of points left. Assumes nothing.
+-- first vertex. Assumes nothing.
 use mathlib.Core.Path.{◌≡◌}
-use Prim.Native.Nat.{◌-◌, ◌≤◌, ◌<◌}
+use Prim.Native.Nat.{◌-◌, ◌<◌}
 use Rattle.laws.specs.Lists.{range}
 use Rattle.whole.specs.Walk.{lowest_with}
 use Rattle.hull.specs.Hull.{hull_tests}
@@ -9,7 +9,4 @@ use Rattle.hull.specs.Inner.{start_of}
 use Rattle.hull.proofs.walk.start_of.Given as goal
 
 abbrev pub invariant-loop-i : goal.invariant-loop-i
-invariant-loop-i l = (l.best < l.n) × (l.i ≤ l.n) × (lowest_with (hull_tests l.p) l.best (range l.i (l.n - l.i)) ≡ start_of l.p)
-
-abbrev pub decreases-loop-i : goal.decreases-loop-i
-decreases-loop-i l = l.n - l.i
+invariant-loop-i l = (l.best < l.n) × (lowest_with (hull_tests l.p) l.best (range l.i (l.n - l.i)) ≡ start_of l.p)

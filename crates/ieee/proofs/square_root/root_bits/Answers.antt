@@ -27,15 +27,6 @@ nears : (c : goal.After-quick_root) → c.quick_root.result ≤ 16777216
 nears c = subst (λ (z : ℕ). z ≤ 16777216) (sym c.quick_root.ensures)
     (near-24 _ c.loop-n-test.false c.loop-n.invariant.1).1
 
-pub digits-m-requires : goal.digits-m-requires
-digits-m-requires c = omega arith
-
-pub place-q-requires : goal.place-q-requires
-place-q-requires c = omega arith
-
-pub overflow_add-q : goal.overflow_add-q
-overflow_add-q c = omega arith
-
 pub overflow_mul-n : goal.overflow_mul-n
 overflow_mul-n c = Fits-le (twofold _ _ (omega arith)) (Fits-lit tt)
 
@@ -45,9 +36,6 @@ overflow_mul-n-2 c = Fits-le (mul-le-mul_right 8388608 (twofold _ _ (omega arith
 pub loop-n-init : goal.loop-n-init
 loop-n-init c = (start _ _ _ c.digits-m.ensures c.place-q.ensures, small _ _ (omega arith), omega arith)
 
-pub overflow_mul-n-in-loop-n : goal.overflow_mul-n-in-loop-n
-overflow_mul-n-in-loop-n c = omega arith
-
 pub overflow_sub-k-in-loop-n : goal.overflow_sub-k-in-loop-n
 overflow_sub-k-in-loop-n c = (grows c).1
 
@@ -56,12 +44,6 @@ loop-n-smaller c = let z = (grows c).1 in omega arith
 
 pub loop-n-preserved : goal.loop-n-preserved
 loop-n-preserved c = (grows c).0
-
-pub overflow_mul-result : goal.overflow_mul-result
-overflow_mul-result c = omega arith
-
-pub quick_root-requires : goal.quick_root-requires
-quick_root-requires c = c.loop-n.invariant.1
 
 pub overflow_cast-result : goal.overflow_cast-result
 overflow_cast-result c = Fits-le (nears c) (Fits-lit tt)

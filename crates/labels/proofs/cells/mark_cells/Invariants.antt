@@ -1,5 +1,4 @@
--- The first k cells are marked, and k is in column x and row y (Drawing); the measure is the cells left. Assumes nothing.
-use Prim.Native.Nat.{◌-◌}
+-- The first k cells are marked, and k is in column x and row y (Drawing). Assumes nothing.
 use Rattle.labels.specs.Cells.{cells8}
 use Rattle.labels.specs.Inner.{cell_mark_at}
 use Rattle.laws.proofs.Drawing.{Drawing}
@@ -8,6 +7,3 @@ use Rattle.labels.proofs.cells.mark_cells.Given as goal
 
 abbrev pub invariant-loop-k : goal.invariant-loop-k
 invariant-loop-k l = Drawing (cells8 l.w) (cells8 l.h) (cell_mark_at (plane l.w l.s) l.w l.h) l.initial.labels l.labels l.k l.x l.y
-
-abbrev pub decreases-loop-k : goal.decreases-loop-k
-decreases-loop-k l = l.n - l.k

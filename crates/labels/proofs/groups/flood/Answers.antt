@@ -1,36 +1,23 @@
 -- What is left on the stack is still to be looked at (Flow); the measure is the depth of the stack with the marks that are left. Assumes
 -- nothing.
-use Prim.Native.Nat.{◌-◌}
 use native.Mathlib.Omega.{arith}
 use Rattle.labels.specs.Labelling.{after_visit}
 use Rattle.labels.proofs.Loops.{flow-begin, flow-safe, flow-inside, flow-less, flow-turn, flow-end}
 use Rattle.labels.proofs.States.{safe-begin}
 use Rattle.labels.proofs.groups.flood.Goals as goal
 
-pub visit-k-requires : goal.visit-k-requires
-visit-k-requires c =
-    record {
-      safe = safe-begin _ _ c.requires.s_in_bounds.1;
-      j_in_bounds = omega (arith, c.requires.s_in_bounds.0, c.requires.cell_grid.size, c.requires.cell_grid.few);
-    }
+pub visit-k-requires-clause-safe : goal.visit-k-requires-clause-safe
+visit-k-requires-clause-safe c = safe-begin _ _ c.requires.s_in_bounds.1
 
 pub loop-k-init : goal.loop-k-init
 loop-k-init c =
     flow-begin c.args.s c.requires.s_in_bounds.2 c.requires.cell_grid c.requires.s_in_bounds.1 c.visit-k.ensures c.visit-k.auto.labels c.visit-k.auto.stack
 
-pub bounds-stack-k : goal.bounds-stack-k
-bounds-stack-k c = omega (arith, c.loop-k.invariant.safe.room)
+pub visit_near-k-requires-clause-safe : goal.visit_near-k-requires-clause-safe
+visit_near-k-requires-clause-safe c = flow-safe c.loop-k.invariant (omega arith)
 
-pub overflow_cast-i : goal.overflow_cast-i
-overflow_cast-i c = omega (arith, c.type_inv.stack (c.loop-k.k - 1))
-
-pub visit_near-k-requires : goal.visit_near-k-requires
-visit_near-k-requires c =
-    record {
-      safe = flow-safe c.loop-k.invariant (omega arith);
-      cell_grid = record { size = c.loop-k.invariant.size; few = c.requires.cell_grid.few; some = c.requires.cell_grid.some };
-      i_in_bounds = (flow-inside c.loop-k.invariant (omega arith), c.requires.s_in_bounds.2);
-    }
+pub visit_near-k-requires-clause-i_in_bounds : goal.visit_near-k-requires-clause-i_in_bounds
+visit_near-k-requires-clause-i_in_bounds c = (flow-inside c.loop-k.invariant (omega arith), c.requires.s_in_bounds.2)
 
 pub loop-k-smaller : goal.loop-k-smaller
 loop-k-smaller c = flow-less c.requires.s_in_bounds.2 c.loop-k.invariant (omega arith) c.visit_near-k.ensures

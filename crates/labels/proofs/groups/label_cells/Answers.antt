@@ -1,22 +1,10 @@
--- The cells before s are done and next labels are given (Cells); the measure is the cells left. Assumes nothing.
+-- The cells before s are done and next labels are given (Cells). Assumes nothing.
 use native.Mathlib.Omega.{arith}
 use Rattle.labels.proofs.Loops.{cells-begin, cells-turn, cells-end}
 use Rattle.labels.proofs.groups.label_cells.Goals as goal
 
 pub loop-s-init : goal.loop-s-init
 loop-s-init c = cells-begin c.requires.0
-
-pub label_at-next-requires : goal.label_at-next-requires
-label_at-next-requires c =
-    let i = c.loop-s.invariant in
-    let e = c.requires in
-    record {
-      cell_grid = i.grid;
-      s_in_bounds = (omega arith, omega (arith, i.grid.size, i.same, e.0.size, e.1), omega (arith, i.small, i.grid.size, i.grid.few));
-    }
-
-pub loop-s-smaller : goal.loop-s-smaller
-loop-s-smaller c = omega (arith, c.loop-s.invariant.grid.size)
 
 pub loop-s-preserved : goal.loop-s-preserved
 loop-s-preserved c =

@@ -1,4 +1,4 @@
--- The cells from a up to j are visited (Parts); the measure is the cells left in the row. Assumes nothing.
+-- The cells from a up to j are visited (Parts). Assumes nothing.
 use native.Mathlib.Omega.{arith}
 use Rattle.labels.specs.Labelling.{after_visits}
 use Rattle.labels.proofs.Loops.{parts-begin, parts-turn, parts-end, one_by_one}
@@ -6,14 +6,6 @@ use Rattle.labels.proofs.groups.visit_row.Goals as goal
 
 pub loop-j-init : goal.loop-j-init
 loop-j-init c = parts-begin c.args.a (omega (arith, c.requires)) c.requires.safe
-
-pub visit-k-requires : goal.visit-k-requires
-visit-k-requires c =
-    let i = c.loop-j.invariant in
-    record {
-      safe = i.safe;
-      j_in_bounds = omega (arith, i.size);
-    }
 
 pub loop-j-preserved : goal.loop-j-preserved
 unfolding after_visits

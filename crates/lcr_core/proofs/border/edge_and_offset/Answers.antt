@@ -5,8 +5,8 @@ use Rattle.lcr_core.proofs.border.edge_and_offset.Goals as goal
 
 pub returns-then-is_negative : goal.returns-then-is_negative
 returns-then-is_negative c =
-    let es = c.side-side.ensures in
-    let s = side_of c.args.version.0 in
+    let es = c.side-side.ensures.answer in
+    let s = side_of c.args.version in
     let l = level-is s c.args.x c.args.y _ _ _ _
     (depth-given s _ _ c.args.x c.requires.in_range es c.depth-dx.ensures)
     (depth-given s _ _ c.args.y c.requires.in_range_2 es c.depth-dy.ensures)
@@ -17,8 +17,8 @@ returns-then-is_negative c =
 
 pub returns-then-is_level : goal.returns-then-is_level
 returns-then-is_level c =
-    let es = c.side-side.ensures in
-    let s = side_of c.args.version.0 in
+    let es = c.side-side.ensures.answer in
+    let s = side_of c.args.version in
     let l = level-is s c.args.x c.args.y _ _ _ _
     (depth-given s _ _ c.args.x c.requires.in_range es c.depth-dx.ensures)
     (depth-given s _ _ c.args.y c.requires.in_range_2 es c.depth-dy.ensures)
@@ -29,8 +29,8 @@ returns-then-is_level c =
 
 pub returns-then-is_negative-2 : goal.returns-then-is_negative-2
 returns-then-is_negative-2 c =
-    let es = c.side-side.ensures in
-    let s = side_of c.args.version.0 in
+    let es = c.side-side.ensures.answer in
+    let s = side_of c.args.version in
     let l = level-is s c.args.x c.args.y _ _ _ _
     (depth-given s _ _ c.args.x c.requires.in_range es c.depth-dx.ensures)
     (depth-given s _ _ c.args.y c.requires.in_range_2 es c.depth-dy.ensures)
@@ -41,8 +41,8 @@ returns-then-is_negative-2 c =
 
 pub returns : goal.returns
 returns c =
-    let es = c.side-side.ensures in
-    let s = side_of c.args.version.0 in
+    let es = c.side-side.ensures.answer in
+    let s = side_of c.args.version in
     let l = level-is s c.args.x c.args.y _ _ _ _
     (depth-given s _ _ c.args.x c.requires.in_range es c.depth-dx.ensures)
     (depth-given s _ _ c.args.y c.requires.in_range_2 es c.depth-dy.ensures)

@@ -6,21 +6,21 @@ use Rattle.lcr_core.proofs.border.sequence_light.Goals as goal
 
 pub overflow_add-byte : goal.overflow_add-byte
 overflow_add-byte c =
-    let z = byte_at c.args.version.0 c.args.position c.positions-n.result
-    c.get.result c.row_start-start.result c.requires c.positions-n.ensures
-    c.get.ensures c.row_start-start.ensures in
+    let z = byte_at c.args.version c.args.position c.positions-n.result
+    c.get.result c.row_start-start.result c.get.ensures.version c.positions-n.ensures.answer
+    c.get.ensures.answer c.row_start-start.ensures in
     omega arith
 
 pub bounds-ring-start : goal.bounds-ring-start
 bounds-ring-start c =
-    byte_at c.args.version.0 c.args.position c.positions-n.result c.get.result
-    c.row_start-start.result c.requires c.positions-n.ensures c.get.ensures
+    byte_at c.args.version c.args.position c.positions-n.result c.get.result
+    c.row_start-start.result c.get.ensures.version c.positions-n.ensures.answer c.get.ensures.answer
     c.row_start-start.ensures
 
 pub returns : goal.returns
 unfolding ring_bytes
 returns c =
-    light-at c.args.version.0 c.args.position c.positions-n.result
+    light-at c.args.version c.args.position c.positions-n.result
     c.get.result c.row_start-start.result
-    c.positions-n.ensures c.get.ensures
+    c.positions-n.ensures.answer c.get.ensures.answer
     c.row_start-start.ensures

@@ -1,6 +1,6 @@
 -- `lcr_ring::outlines::lcr_outline` meets its contract. Assumes nothing.
 use mathlib.Core.Path.{ap, ◌∙◌}
-use Rattle.c_pictures.specs.Answers.{outline_result, points_after}
+use Rattle.laws.specs.Said.{left_of, result_of}
 use Rattle.lcr_ring.proofs.outlines.lcr_outline.Goals as goal
 
 pub returns : goal.returns
@@ -8,7 +8,7 @@ returns c =
     let a = c.args in
     let d = c.outline-a.ensures in
     record {
-      answer = c.put_many.ensures.answer ∙ ap outline_result d.answer;
-      points = c.put_many.ensures.points ∙ ap (λ s. points_after s a.points.now) d.answer;
+      answer = c.put_many.ensures.answer ∙ ap result_of d.answer;
+      points = c.put_many.ensures.points ∙ ap (λ s. left_of s a.points.now) d.answer;
       out = d.out;
     }

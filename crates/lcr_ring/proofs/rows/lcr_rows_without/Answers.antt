@@ -1,7 +1,6 @@
 -- `lcr_ring::rows::lcr_rows_without` meets its contract: the entry's answer, handed on. Assumes nothing.
 use mathlib.Core.Path.{ap, ◌∙◌}
-use Rattle.noise.specs.declared.Count.{Count}
-use Rattle.c_pictures.specs.Rows.{count_result, count_after}
+use Rattle.laws.specs.Said.{left_of, result_of}
 use Rattle.lcr_ring.proofs.rows.lcr_rows_without.Goals as goal
 
 pub returns : goal.returns
@@ -10,6 +9,6 @@ returns c =
     let d = c.rows_without.ensures in
     let p = c.put_count.ensures in
     record {
-      answer = p.answer ∙ ap (λ (s : Count). count_result s) d;
-      count = p.count ∙ ap (λ (s : Count). count_after s a.count.now) d;
+      answer = p.answer ∙ ap result_of d;
+      count = p.count ∙ ap (λ s. left_of s a.count.now) d;
     }

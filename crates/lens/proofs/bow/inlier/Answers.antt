@@ -8,4 +8,4 @@ returns-in_default c = simp c.in_default.is
 
 pub returns : goal.returns
 unfolding inlier_of
-returns c = simp (c.in-Fit.is, c.abs32.ensures)
+returns c = simp (c.in-Some.is, c.abs32.ensures)

@@ -1,5 +1,5 @@
--- `lens::bow::normal_of` meets its contract. The invariant: at most the samples passed count, and the rest of the definition, from the
--- sums so far, gives those of all. The measure is how many samples are left. Assumes nothing.
+-- `lens::bow::normal_of` meets its contract. The invariant: at most the samples passed count, and the rest of the definition, from the sums
+-- so far, gives those of all. Assumes nothing.
 use Rattle.std.proofs.Common.{rules}
 use Rattle.lens.proofs.Bows.{normal-begin, normal-step, normal-end}
 use Rattle.lens.proofs.bow.normal_of.Goals as goal

@@ -1,5 +1,4 @@
--- `lens::bow::rss` meets its contract. The invariant: the sum of what is left, from that so far, is the sum of all. The measure is how
--- many samples are left. Assumes nothing.
+-- `lens::bow::rss` meets its contract. The invariant: the sum of what is left, from that so far, is the sum of all. Assumes nothing.
 use Rattle.lens.proofs.Bows.{rss-begin, rss-step, rss-end}
 use Rattle.lens.proofs.bow.rss.Goals as goal
 

@@ -8,8 +8,8 @@ returns-in_default c = simp c.in_default.is
 
 pub returns-then-abs32 : goal.returns-then-abs32
 unfolding lens_end
-returns-then-abs32 c = simp (c.in-On.is, ← c.abs32.ensures, c.if-abs32.true)
+returns-then-abs32 c = simp (c.in-Some.is, ← c.abs32.ensures, c.if-abs32.true)
 
 pub returns : goal.returns
 unfolding lens_end
-returns c = simp (c.in-On.is, ← c.abs32.ensures, c.if-abs32.false)
+returns c = simp (c.in-Some.is, ← c.abs32.ensures, c.if-abs32.false)

@@ -17,7 +17,7 @@ returns c =
     let first = c.one_pass.ensures in
     let second = c.second.ensures in
     record {
-      answer = lens-by _ _ _ _ first.answer _ _ c.in-On.is
+      answer = lens-by _ _ _ _ first.answer _ _ c.in-Some.is
           second.answer c.end-2.ensures;
       straight_past = second.straight_past;
       buf_past = past-then first.buf_past second.buf_past;

@@ -6,10 +6,10 @@ use Rattle.laws.proofs.Past.{past-none, past_more}
 use Rattle.lens.proofs.Estimates.{second-same, second-straight}
 use Rattle.lens.proofs.estimate.second.Goals as goal
 
-pub returns-then-kappa : goal.returns-then-kappa
-returns-then-kappa c =
+pub returns-then-first : goal.returns-then-first
+returns-then-first c =
     record {
-      answer = second-same _ _ _ _ _ _ c.if-kappa.true c.one_pass.ensures.answer;
+      answer = second-same _ _ _ _ _ c.if-first.true c.one_pass.ensures.answer;
       straight_past = past-none _ _;
       buf_past = c.one_pass.ensures.buf_past;
     }
@@ -37,7 +37,7 @@ returns c =
     let long = kept-long kept
     c.requires.s_in_bounds in
     record {
-      answer = second-straight _ _ _ _ _ _ c.if-kappa.false kept
+      answer = second-straight _ _ _ _ _ c.if-first.false kept
           c.straight_pass.ensures.answer;
       straight_past = kept-past kept c.requires.s_in_bounds;
       buf_past = past_more _ (omega arith) c.straight_pass.ensures.buf_past;

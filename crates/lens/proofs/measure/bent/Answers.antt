@@ -2,10 +2,10 @@
 use Rattle.lens.specs.Measure.{bent_of}
 use Rattle.lens.proofs.measure.bent.Goals as goal
 
-pub returns-in_default : goal.returns-in_default
+pub returns-in_err-b : goal.returns-in_err-b
 unfolding bent_of
-returns-in_default c = simp c.in_default.is
+returns-in_err-b c = simp (c.from_residual.ensures, c.in_err-b.was)
 
 pub returns : goal.returns
 unfolding bent_of
-returns c = simp (c.in-Fit.is, c.max32.ensures, c.abs32.ensures)
+returns c = simp (c.in_ok-b.was, c.max32.ensures, c.abs32.ensures)

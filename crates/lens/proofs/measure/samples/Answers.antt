@@ -1,5 +1,4 @@
--- `lens::measure::samples` meets its contract. The invariant: a selection in progress, `Selecting`. The measure is how many points are
--- left. Assumes nothing.
+-- `lens::measure::samples` meets its contract. The invariant: a selection in progress, `Selecting`. Assumes nothing.
 use Rattle.std.proofs.Common.{ap, ◌∙◌}
 use lib.Ieee.{Float}
 use Rattle.fit.proofs.Selects.{selecting-begin, selecting-turn, selecting-end}

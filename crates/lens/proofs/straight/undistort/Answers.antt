@@ -1,5 +1,5 @@
--- `lens::straight::undistort` meets its contract. The invariant: a selection in progress that keeps every point, `Selecting`. The measure
--- is how many points are left. Assumes nothing.
+-- `lens::straight::undistort` meets its contract. The invariant: a selection in progress that keeps every point, `Selecting`. Assumes
+-- nothing.
 use Rattle.std.proofs.Common.{refl}
 use Rattle.fit.proofs.Selects.{selecting-begin, selecting-turn, selecting-end}
 use Rattle.lens.proofs.straight.undistort.Goals as goal

@@ -3,12 +3,8 @@ use mathlib.Core.Path.{refl}
 use Prim.Native.Nat.{◌*◌, ◌+◌, ◌/◌}
 use native.Mathlib.Omega.{arith}
 use lib.ListN.{length-set}
-use Rattle.levels.proofs.Hist.{sums-most, sums-one}
+use Rattle.levels.proofs.Hist.{sums-one}
 use Rattle.levels.proofs.cells.count_one.Goals as goal
-
-pub overflow_add-bins : goal.overflow_add-bins
-overflow_add-bins c =
-    omega (arith, sums-most 256 (32 * c.args.turn + c.args.v / 8) c.args.bins.now c.requires.bins_up_to (omega arith))
 
 pub returns : goal.returns
 returns c =

@@ -1,4 +1,4 @@
--- acc is the count of the k topmost bins, and no running count before exceeds cut; the measure is the bins left. Assumes nothing.
+-- acc is the count of the k topmost bins, and no running count before exceeds cut. Assumes nothing.
 use mathlib.Core.Path.{sym}
 use Prim.Native.Nat.{◌+◌, ◌-◌}
 use native.Mathlib.Omega.{arith}
@@ -10,51 +10,22 @@ use Rattle.levels.specs.Level.{from_top}
 use Rattle.levels.proofs.cells.high_bin.Goals as goal
 
 pub loop-k-init : goal.loop-k-init
-loop-k-init c = (omega arith, omega arith, sym (fold-zero ◌+◌ 0 _), λ i l. omega arith)
+loop-k-init c = (omega arith, sym (fold-zero ◌+◌ 0 _), λ i l. omega arith)
 
-pub overflow_sub-acc : goal.overflow_sub-acc
-overflow_sub-acc c = omega arith
-
-pub offset_bounds-bins-k : goal.offset_bounds-bins-k
-offset_bounds-bins-k c = omega arith
-
-pub bounds-bins-k : goal.bounds-bins-k
-bounds-bins-k c = omega arith
-
-pub overflow_add-acc : goal.overflow_add-acc
-overflow_add-acc c = omega (arith, c.requires (31 - c.loop-k.k) (omega arith))
-
-pub overflow_sub-result : goal.overflow_sub-result
-overflow_sub-result c = omega arith
-
-pub returns-then-cut-acc : goal.returns-then-cut-acc
-returns-then-cut-acc c =
+pub returns-then-cut-acc-clause-answer : goal.returns-then-cut-acc-clause-answer
+returns-then-cut-acc-clause-answer c =
     let f = value_at c.args.bins.now in
-    let sum = running (from_top f) c.loop-k.k c.loop-k.acc c.loop-k.invariant.2 in
-    record {
-      answer = sym (high-at f c.args.cut c.loop-k.k (omega arith) c.loop-k.invariant.3 (omega arith));
-      most = omega arith;
-    }
-
-pub overflow_add-k : goal.overflow_add-k
-overflow_add-k c = omega arith
-
-pub loop-k-smaller : goal.loop-k-smaller
-loop-k-smaller c = omega arith
+    let sum = running (from_top f) c.loop-k.k c.loop-k.acc c.loop-k.invariant.1 in
+    sym (high-at f c.args.cut c.loop-k.k (omega arith) c.loop-k.invariant.2 (omega arith))
 
 pub loop-k-preserved : goal.loop-k-preserved
 loop-k-preserved c =
     let f = from_top (value_at c.args.bins.now) in
-    let sum = running f c.loop-k.k c.loop-k.acc c.loop-k.invariant.2 in (
-      omega arith,
+    let sum = running f c.loop-k.k c.loop-k.acc c.loop-k.invariant.1 in (
       omega (arith, c.requires (31 - c.loop-k.k) (omega arith)),
       sum,
-      below_more _ c.loop-k.k c.loop-k.invariant.3 (omega arith),
+      below_more _ c.loop-k.k c.loop-k.invariant.2 (omega arith),
     )
 
-pub returns : goal.returns
-returns c =
-    record {
-      answer = sym (high-none (value_at c.args.bins.now) c.args.cut (λ i l. c.loop-k.invariant.3 i (omega arith)));
-      most = omega arith;
-    }
+pub returns-clause-answer : goal.returns-clause-answer
+returns-clause-answer c = sym (high-none (value_at c.args.bins.now) c.args.cut (λ i l. c.loop-k.invariant.2 i (omega arith)))

@@ -1,6 +1,6 @@
--- acc is the count of the k topmost bins, and no running count before exceeds cut; the measure is the bins left. Assumes nothing.
+-- acc is the count of the k topmost bins, and no running count before exceeds cut. Assumes nothing.
 use mathlib.Core.Path.{◌≡◌}
-use Prim.Native.Nat.{◌*◌, ◌+◌, ◌-◌, ◌<◌, ◌≤◌, ℕ}
+use Prim.Native.Nat.{◌*◌, ◌+◌, ◌<◌, ◌≤◌, ℕ}
 use Rattle.laws.specs.Fold.{sum_to}
 use Rattle.laws.specs.Plane.{value_at}
 use Rattle.levels.specs.Level.{from_top}
@@ -8,7 +8,4 @@ use Rattle.levels.proofs.cells.high_bin.Given as goal
 
 abbrev pub invariant-loop-k : goal.invariant-loop-k
 invariant-loop-k l =
-    (l.k ≤ 31) × (l.acc ≤ 256 * l.k) × (l.acc ≡ sum_to l.k (from_top (value_at l.bins))) × ((i : ℕ) → i < l.k → sum_to (i + 1) (from_top (value_at l.bins)) ≤ l.cut)
-
-abbrev pub decreases-loop-k : goal.decreases-loop-k
-decreases-loop-k l = 31 - l.k
+    (l.acc ≤ 256 * l.k) × (l.acc ≡ sum_to l.k (from_top (value_at l.bins))) × ((i : ℕ) → i < l.k → sum_to (i + 1) (from_top (value_at l.bins)) ≤ l.cut)

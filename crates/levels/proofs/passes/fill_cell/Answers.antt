@@ -1,8 +1,5 @@
 -- By the cell's byte: kept where it is not 0, else the mean. Assumes nothing.
 use mathlib.Core.Path.{◌∙◌}
-use native.Mathlib.Nat.{mul_comm}
-use native.Mathlib.Omega.{arith}
-use Rattle.laws.proofs.Planes.{place-lt, row-end}
 use Rattle.laws.specs.Plane.{plane}
 use Rattle.levels.proofs.Fill.{fill-kept, fill-mean}
 use Rattle.levels.proofs.passes.fill_cell.Goals as goal
@@ -11,16 +8,6 @@ pub returns-then-v-ne0 : goal.returns-then-v-ne0
 returns-then-v-ne0 c =
     let a = c.args in
     fill-kept a.w a.h (plane a.w a.g.now) a.x a.y c.requires.v_value c.if-v-ne0.true
-
-pub east_of-requires : goal.east_of-requires
-east_of-requires c =
-    let a = c.args in
-    record { w_in_bounds = omega (arith, row-end a.y a.h a.w (omega arith), mul_comm a.w a.h); x_lt_w = omega (arith, row-end a.y a.h a.w (omega arith), mul_comm a.w a.h) }
-
-pub north_of-requires : goal.north_of-requires
-north_of-requires c =
-    let a = c.args in
-    omega (arith, place-lt a.x a.y a.w a.h (omega arith) (omega arith))
 
 pub returns : goal.returns
 returns c =

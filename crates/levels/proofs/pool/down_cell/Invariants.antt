@@ -1,12 +1,8 @@
--- m is the fold of the first j cells of the window; the measure is the cells left. Assumes nothing.
+-- m is the fold of the first j cells of the window. Assumes nothing.
 use mathlib.Core.Path.{◌≡◌}
-use Prim.Native.Nat.{◌-◌, ◌≤◌}
 use Rattle.laws.specs.Plane.{plane}
 use Rattle.levels.specs.Inner.{column_extreme}
 use Rattle.levels.proofs.pool.down_cell.Given as goal
 
 abbrev pub invariant-loop-j : goal.invariant-loop-j
-invariant-loop-j l = (l.j ≤ l.n) × (l.m ≡ column_extreme l.most (plane l.w l.g) l.x l.y0 l.j)
-
-abbrev pub decreases-loop-j : goal.decreases-loop-j
-decreases-loop-j l = l.n - l.j
+invariant-loop-j l = l.m ≡ column_extreme l.most (plane l.w l.g) l.x l.y0 l.j

@@ -2,7 +2,7 @@
 use Rattle.levels.proofs.pool.join8.Goals as goal
 
 pub returns-then-most : goal.returns-then-most
-returns-then-most c = rw c.if-most.true c.max8.ensures
+returns-then-most c = rw c.if-most.true c.max.ensures
 
 pub returns-else-most : goal.returns-else-most
-returns-else-most c = rw c.if-most.false c.min8.ensures
+returns-else-most c = rw c.if-most.false c.min.ensures

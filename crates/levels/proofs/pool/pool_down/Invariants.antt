@@ -1,5 +1,4 @@
--- The first k cells of dst are drawn and bytes, and k is in column x and row y; the measure is the cells left. Assumes nothing.
-use Prim.Native.Nat.{◌*◌, ◌-◌}
+-- The first k cells of dst are drawn and bytes, and k is in column x and row y. Assumes nothing.
 use Rattle.laws.proofs.Drawing.{Drawing}
 use Rattle.laws.specs.Plane.{plane}
 use Rattle.levels.specs.Inner.{Bytes, pooled_down}
@@ -7,6 +6,3 @@ use Rattle.levels.proofs.pool.pool_down.Given as goal
 
 abbrev pub invariant-loop-k : goal.invariant-loop-k
 invariant-loop-k l = (Drawing l.w l.h (pooled_down l.most l.h (plane l.w l.src)) l.initial.dst l.dst l.k l.x l.y) × Bytes l.k l.dst
-
-abbrev pub decreases-loop-k : goal.decreases-loop-k
-decreases-loop-k l = l.w * l.h - l.k

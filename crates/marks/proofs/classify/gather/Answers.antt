@@ -1,21 +1,16 @@
 -- `gather` walks the places. Invariant: the first r numbers are the finite lumas at the places below j, and the list is as long as before.
--- Measure: the places left. Assumes nothing.
-use mathlib.Core.Path.{◌≡◌, refl, ◌∙◌, subst}
-use Prim.Native.Nat.{ℕ}
+-- Assumes nothing.
+use mathlib.Core.Path.{◌≡◌, ◌∙◌}
 use native.Mathlib.Omega.{arith}
 use lib.ListN.{length}
 use Rattle.marks.proofs.Windows.{gathered-room, gathered-turn, luma-at}
-use Rattle.marks.specs.Classify.{Gathered}
 use Rattle.marks.proofs.classify.gather.Goals as goal
-
-pub loop-j-init : goal.loop-j-init
-loop-j-init c = let p = c.requires in (p.from_le_to.0, refl, p.gathered)
 
 pub keep-r-requires : goal.keep-r-requires
 keep-r-requires c =
     let at = c.loop-j in
     let g = gathered-room c.args.lumas.now at.around at.j at.r
-    at.invariant.2 in
+    at.invariant.1 in
     let f = c.requires.from_le_to.2 in
     omega arith
 
@@ -24,19 +19,9 @@ loop-j-preserved c =
     let a = c.args in
     let at = c.loop-j in
     let l : length c.keep-r.new.around ≡ length at.around = c.keep-r.auto.around in (
-      omega arith,
-      l ∙ at.invariant.1,
+      l ∙ at.invariant.0,
       gathered-turn a.lumas.now at.around c.keep-r.new.around at.j at.r c.keep-r.result _
           (luma-at a.lumas.now at.j _ c.place_around.ensures.answer)
           c.keep-r.ensures.around l (omega arith)
-          c.keep-r.ensures.at_most at.invariant.2,
+          c.keep-r.ensures.at_most at.invariant.1,
     )
-
-pub shape_of-around : goal.shape_of-around
-shape_of-around c = c.loop-j.invariant.1
-
-pub returns : goal.returns
-returns c =
-    let at = c.loop-j in
-    let e : at.j ≡ c.args.to = omega arith in
-    subst (λ (k : ℕ). Gathered c.args.lumas.now k at.r at.around) e at.invariant.2

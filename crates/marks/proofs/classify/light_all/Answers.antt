@@ -1,7 +1,6 @@
--- `light_all` walks the positions. Invariant: `Lighting`, the window's part of the gathered lumas and the marks written so far. Measure:
--- the positions left. Assumes nothing.
+-- `light_all` walks the positions. Invariant: `Lighting`, the window's part of the gathered lumas and the marks written so far. Assumes
+-- nothing.
 use native.Mathlib.Omega.{arith}
-use borrow.Author.Rules.{rules}
 use Rattle.marks.proofs.Windows.{lighting-begin, lighting-part, lighting-turn, lighting-end}
 use Rattle.marks.proofs.classify.light_all.Goals as goal
 
@@ -38,9 +37,6 @@ loop-p-preserved c =
     lighting-turn c.args.lumas.now c.args.around.now at.marks at.lo at.hi at.p c.passed-lo.result
     c.passed-hi.result c.is_light.result (omega arith) c.requires.around c.is_light.ensures
     c.passed-lo.ensures c.passed-hi.ensures at.invariant
-
-pub shape_of-marks : goal.shape_of-marks
-shape_of-marks c = let e = c.loop-p.invariant.same in search rules
 
 pub returns : goal.returns
 returns c =

@@ -1,12 +1,7 @@
--- `light_all` walks the positions. Invariant: `Lighting`, the window's part of the gathered lumas and the marks written so far. Measure:
--- the positions left. Assumes nothing.
-use Prim.Native.Nat.{◌-◌}
-use lib.ListN.{length}
+-- `light_all` walks the positions. Invariant: `Lighting`, the window's part of the gathered lumas and the marks written so far. Assumes
+-- nothing.
 use Rattle.marks.proofs.Windows.{Lighting}
 use Rattle.marks.proofs.classify.light_all.Given as goal
 
 abbrev pub invariant-loop-p : goal.invariant-loop-p
 invariant-loop-p l = Lighting l.lumas l.marks l.lo l.hi l.p
-
-abbrev pub decreases-loop-p : goal.decreases-loop-p
-decreases-loop-p l = length l.lumas - l.p

@@ -1,11 +1,8 @@
--- `best_of` walks the counts. Invariant: the first greatest of the first k. Measure: the counts left. Assumes nothing.
+-- `best_of` walks the counts. Invariant: the first greatest of the first k. Assumes nothing.
 use mathlib.Core.Path.{◌≡◌}
-use Prim.Native.Nat.{◌<◌, ◌≤◌, ◌-◌}
+use Prim.Native.Nat.{◌<◌, ◌-◌}
 use Rattle.marks.specs.Correlate.{best_to}
 use Rattle.marks.proofs.correlate.best_of.Given as goal
 
 abbrev pub invariant-loop-k : goal.invariant-loop-k
-invariant-loop-k l = (1 ≤ l.k) × (l.k ≤ 8) × (l.b < 8) × (l.b ≡ best_to l.counts (l.k - 1))
-
-abbrev pub decreases-loop-k : goal.decreases-loop-k
-decreases-loop-k l = 8 - l.k
+invariant-loop-k l = (l.b < 8) × (l.b ≡ best_to l.counts (l.k - 1))

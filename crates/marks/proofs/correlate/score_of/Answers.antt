@@ -10,4 +10,4 @@ pub returns : goal.returns
 unfolding score
 returns c =
     ap (λ (n : ℕ). div binary32 (of_int binary32 (pos c.args.count))
-    (of_int binary32 (pos n))) c.positions-n.ensures
+    (of_int binary32 (pos n))) c.positions-n.ensures.answer

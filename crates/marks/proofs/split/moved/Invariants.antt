@@ -1,13 +1,8 @@
--- `moved` counts. Invariant: at most i are counted of the first i numbers, and where none is these are on the same sides. Measure: the
--- numbers left. Assumes nothing.
+-- `moved` counts. Invariant: at most as many are counted as there were, and where none is these are on the same sides. Assumes nothing.
 use mathlib.Core.Path.{◌≡◌}
-use Prim.Native.Nat.{◌≤◌, ◌-◌}
-use lib.ListN.{length}
+use Prim.Native.Nat.{◌≤◌}
 use Rattle.marks.specs.Split.{SameSides}
 use Rattle.marks.proofs.split.moved.Given as goal
 
-abbrev pub invariant-loop-i : goal.invariant-loop-i
-invariant-loop-i l = (l.i ≤ length l.w) × (l.n ≤ l.i) × (l.n ≡ 0 → SameSides l.w l.a l.b l.i)
-
-abbrev pub decreases-loop-i : goal.decreases-loop-i
-decreases-loop-i l = length l.w - l.i
+abbrev pub invariant-loop-x : goal.invariant-loop-x
+invariant-loop-x l = (l.n ≤ l.x-index) × (l.n ≡ 0 → SameSides l.w l.a l.b l.x-index)

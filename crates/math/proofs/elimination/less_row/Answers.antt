@@ -1,5 +1,5 @@
 -- `math::elimination::less_row` meets its contract.
--- Invariant: taking the products that are left gives the result. Measure: products left. Assumes nothing.
+-- Invariant: taking the products that are left gives the result. Assumes nothing.
 use mathlib.Core.Path.{sym, ◌∙◌}
 use Rattle.math.proofs.Eliminations.{less-step, less-end}
 use Rattle.math.proofs.elimination.less_row.Goals as goal

@@ -1,12 +1,8 @@
 -- `math::elimination::less_row` meets its contract.
--- Invariant: taking the products that are left gives the result. Measure: products left. Assumes nothing.
-use mathlib.Core.Path.{◌≡◌}
-use Prim.Native.Nat.{◌-◌}
+-- Invariant: taking the products that are left gives the result. Assumes nothing.
+use Rattle.std.proofs.Common.{◌≡◌, ◌-◌}
 use Rattle.math.specs.Elimination.{less_on}
 use Rattle.math.proofs.elimination.less_row.Given as goal
 
 abbrev pub invariant-loop-k : goal.invariant-loop-k
 invariant-loop-k l = less_on l.a l.x l.w (l.n - l.k) l.k l.s ≡ less_on l.a l.x l.w (l.n - l.k0) l.k0 l.s0
-
-abbrev pub decreases-loop-k : goal.decreases-loop-k
-decreases-loop-k l = l.n - l.k

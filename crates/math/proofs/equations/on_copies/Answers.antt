@@ -1,7 +1,6 @@
 -- `math::equations::on_copies` meets its contract: room of sixteen places or of sixty-four, of which as many are lent as there are numbers.
 -- Assumes nothing.
 use Rattle.math.proofs.Doors.{square4, square8, zeros-length, zeros-cells, zeros-cells4}
-use mathlib.Core.Path.{sym}
 use Rattle.math.proofs.equations.on_copies.Goals as goal
 
 pub slice_bounds-m-end : goal.slice_bounds-m-end
@@ -13,18 +12,6 @@ slice_bounds-run_copy-end c = zeros-cells4 _ c.if-n-le4.true
 pub slice_bounds-run_copy-end-then-n-le4 : goal.slice_bounds-run_copy-end-then-n-le4
 slice_bounds-run_copy-end-then-n-le4 c = zeros-length _ 4 c.if-n-le4.true
 
-pub run_copy-requires : goal.run_copy-requires
-run_copy-requires c =
-    let h = c.if-n-le4.true in
-    let p = c.requires in
-    record {
-      n_bound = p.n_bound;
-      a_len = p.a_len;
-      b_len = p.b_len;
-      m_len = sym (zeros-cells4 _ h);
-      v_len = sym (zeros-length _ 4 h);
-    }
-
 pub slice_bounds-m-end-2 : goal.slice_bounds-m-end-2
 slice_bounds-m-end-2 c = square8 _ c.requires.n_bound
 
@@ -33,14 +20,3 @@ slice_bounds-run_copy-end-2 c = zeros-cells _ c.requires.n_bound
 
 pub slice_bounds-run_copy-end-3 : goal.slice_bounds-run_copy-end-3
 slice_bounds-run_copy-end-3 c = zeros-length _ 8 c.requires.n_bound
-
-pub run_copy-requires-2 : goal.run_copy-requires-2
-run_copy-requires-2 c =
-    let p = c.requires in
-    record {
-      n_bound = p.n_bound;
-      a_len = p.a_len;
-      b_len = p.b_len;
-      m_len = sym (zeros-cells _ p.n_bound);
-      v_len = sym (zeros-length _ 8 p.n_bound);
-    }

@@ -3,4 +3,4 @@ use Rattle.math.proofs.Samples.{run-copied}
 use Rattle.math.proofs.equations.run_copy.Goals as goal
 
 pub returns : goal.returns
-returns c = run-copied _ _ _ _ _ _ c.copy.ensures c.copy-2.ensures c.run.ensures
+returns c = run-copied _ _ _ _ _ _ c.copy_from_slice.ensures.after c.copy_from_slice-2.ensures.after c.run.ensures

@@ -1,14 +1,9 @@
 -- `medians::lists::distances` meets its contract.
--- Invariant: the first i places hold the distances, and the length stays. Measure: places left. Assumes nothing.
-use mathlib.Core.Path.{◌≡◌}
-use Prim.Native.Nat.{ℕ, ◌<◌, ◌-◌}
-use lib.ListN.{length}
+-- Invariant: the first i places hold the distances. Assumes nothing.
+use Rattle.std.proofs.Common.{◌≡◌, ℕ, ◌<◌}
 use Rattle.math.specs.Lists.{number_at}
 use Rattle.medians.specs.Median.{away}
 use Rattle.medians.proofs.lists.distances.Given as goal
 
 abbrev pub invariant-loop-i : goal.invariant-loop-i
-invariant-loop-i l = (length l.to ≡ length l.initial.to) × ((x : ℕ) → x < l.i → number_at l.to x ≡ away l.c (number_at l.from x))
-
-abbrev pub decreases-loop-i : goal.decreases-loop-i
-decreases-loop-i l = length l.from - l.i
+invariant-loop-i l = (x : ℕ) → x < l.i → number_at l.to x ≡ away l.c (number_at l.from x)

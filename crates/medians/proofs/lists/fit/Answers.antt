@@ -10,5 +10,5 @@ float_to_bits-result c = finite_number _ (sym c.is_finite.ensures ∙ c.if-is_fi
 pub returns-then-is_finite : goal.returns-then-is_finite
 returns-then-is_finite c = usable-bits _ (subst T (sym c.well_formed.0.1) tt) (sym c.is_finite.ensures ∙ c.if-is_finite.true)
 
-pub returns : goal.returns
-returns c = usable-no _ (sym c.is_finite.ensures ∙ c.if-is_finite.false)
+pub returns-else-is_finite : goal.returns-else-is_finite
+returns-else-is_finite c = c.if-is_finite.false ∙ usable-no _ (sym c.is_finite.ensures ∙ c.if-is_finite.false)

@@ -2,14 +2,11 @@
 -- Measure: the length of the list, which is shorter in either part. Assumes nothing.
 use Prim.Native.Nat.{◌≤◌, ◌<◌}
 use native.Mathlib.Omega.{arith}
-use Rattle.medians.proofs.Selection.{select-one, select-front, select-mid, select-tail, front-ok, back-ok, front_length}
+use Rattle.medians.proofs.Selection.{select-one, select-front, select-mid, select-tail, front-ok, back-ok}
 use Rattle.medians.proofs.select.+select.Goals as goal
 
 pub returns-then-v-le1 : goal.returns-then-v-le1
 returns-then-v-le1 t c = select-one _ _ c.requires.k_in_bounds c.if-v-le1.true
-
-pub slice_bounds-select-end-then-k-e : goal.slice_bounds-select-end-then-k-e
-slice_bounds-select-end-then-k-e t c = front_length _ _ _ _ c.requires.numbers c.partition-s.ensures
 
 pub select-requires : goal.select-requires
 select-requires t c =

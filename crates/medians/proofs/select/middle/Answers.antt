@@ -26,14 +26,8 @@ returns-then-n-eq1 c =
       answer = odd_no_nan v _ _ _ h c.select-upper.ensures;
     }
 
-pub largest-lower-requires : goal.largest-lower-requires
-largest-lower-requires c =
-    let e = c.select-upper.auto.v in
-    record {
-      n_nonzero = omega arith;
-      n_in_bounds = omega arith;
-      numbers = same_numbers _ _ c.select-upper.ensures.same c.requires;
-    }
+pub largest-lower-requires-clause-numbers : goal.largest-lower-requires-clause-numbers
+largest-lower-requires-clause-numbers c = same_numbers _ _ c.select-upper.ensures.same c.requires
 
 pub returns : goal.returns
 returns c =

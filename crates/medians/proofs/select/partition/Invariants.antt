@@ -1,14 +1,12 @@
 -- `medians::select::partition` meets its contract.
 -- Invariant: the values are the same, nothing before i is above the pivot and nothing from e on below it. Measure: e - i. Assumes nothing.
-use mathlib.Core.Path.{◌≡◌}
 use Prim.Native.Nat.{◌-◌}
-use lib.ListN.{length}
 use Rattle.medians.specs.Median.{SameValues}
 use Rattle.medians.specs.Inner.{Parting}
 use Rattle.medians.proofs.select.partition.Given as goal
 
 abbrev pub invariant-loop-i : goal.invariant-loop-i
-invariant-loop-i l = SameValues l.initial.v l.v × (length l.v ≡ length l.initial.v) × Parting l.v l.p l.i l.e
+invariant-loop-i l = SameValues l.initial.v l.v × Parting l.v l.p l.i l.e
 
 abbrev pub decreases-loop-i : goal.decreases-loop-i
 decreases-loop-i l = l.e - l.i

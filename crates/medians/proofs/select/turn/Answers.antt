@@ -1,6 +1,6 @@
 -- `medians::select::turn` meets its contract: both walks, then an exchange where they have not met. Assumes nothing.
-use mathlib.Core.Path.{sym, subst}
-use Prim.Native.Nat.{◌-◌, ◌+◌}
+use Rattle.std.proofs.Common.{sym, subst, ◌∙◌, ◌-◌, ◌+◌, arith}
+use Rattle.math.proofs.Lists.{swap-swapped}
 use Rattle.medians.specs.Inner.{Turned}
 use Rattle.medians.proofs.Partition.{parting-stop, parting-floor, turn-stop, turn-swap}
 use Rattle.medians.proofs.select.turn.Goals as goal
@@ -8,12 +8,8 @@ use Rattle.medians.proofs.select.turn.Goals as goal
 pub up-a-requires : goal.up-a-requires
 up-a-requires c = parting-stop _ _ _ _ c.requires.i_lt_e c.requires.parting
 
-pub down-b-requires : goal.down-b-requires
-down-b-requires c =
-    record {
-      from_in_bounds = c.requires.parting.e-in;
-      floor = parting-floor _ _ _ _ c.requires.i_lt_e c.requires.parting;
-    }
+pub down-b-requires-clause-floor : goal.down-b-requires-clause-floor
+down-b-requires-clause-floor c = parting-floor _ _ _ _ c.requires.i_lt_e c.requires.parting
 
 pub returns-then-b-a : goal.returns-then-b-a
 returns-then-b-a c =
@@ -23,6 +19,6 @@ returns-then-b-a c =
 pub returns : goal.returns
 returns c =
     subst (λ (t : _). Turned c.args.v.now t c.args.p c.args.i c.args.e (c.up-a.result + 1) (c.down-b.result - 1))
-    (sym c.swap.ensures)
+    (sym (c.swap.ensures.after ∙ swap-swapped _ _ _ (omega arith) (omega arith)))
     (turn-swap c.args.v.now c.args.p c.args.i c.args.e c.up-a.result c.down-b.result c.requires.i_lt_e c.requires.parting
     c.up-a.ensures c.down-b.ensures c.if-b-a.false)

@@ -18,14 +18,14 @@ pub strip-to-requires : goal.strip-to-requires
 strip-to-requires c =
     let a = c.args in
     let q = c.loop-i in
-    let wide = c.strip_width-wide in
+    let wide = c.min-wide in
     let p = member_at a.want a.w a.s.now a.levels.now a.labels.now in
     record {
       grids = c.requires.grids;
       columns = record { bytes = c.requires.columns.bytes; across = omega arith; down = c.requires.columns.down; some = c.requires.columns.some };
       n_nonzero = (
-        wide.ensures.1,
-        wide.ensures.2,
+        omega (arith, wide.ensures),
+        omega (arith, wide.ensures),
         room-strip a.run p a.y0 a.m a.x0 q.i wide.result a.n q.invariant.1 (omega arith) c.requires.n_in_bounds,
       );
       run_nonzero = c.requires.run_nonzero;
@@ -35,7 +35,7 @@ pub loop-i-preserved : goal.loop-i-preserved
 loop-i-preserved c =
     let a = c.args in
     let q = c.loop-i in
-    let wide = c.strip_width-wide in
+    let wide = c.min-wide in
     let p = member_at a.want a.w a.s.now a.levels.now a.labels.now in
     (omega arith, strip-more a.run p a.y0 a.m a.x0 q.i wide.result q.invariant.1 c.strip-to.ensures)
 

@@ -1,5 +1,5 @@
 -- `outline::columns::put_columns` meets its contract. The loop's invariant: the points of the first i columns are stored, and to is the
--- place after them. The measure is n - i. Assumes nothing.
+-- place after them. Assumes nothing.
 use mathlib.Core.List.{List}
 use mathlib.Core.Path.{◌≡◌}
 use Prim.Native.Nat.{ℕ, ◌+◌}
@@ -12,11 +12,8 @@ use Rattle.outline.proofs.columns.put_columns.Goals as goal
 pub loop-i-init : goal.loop-i-init
 unfolding columns_found
 loop-i-init c =
-    let a = c.args in (
-      omega arith,
-      put-begin (λ i. column_found a.run a.y0 a.rows (a.x + i) (get_or a.down.now i 0) (get_or a.up.now i 0)) a.at
-          a.out.now,
-    )
+    let a = c.args in
+    put-begin (λ i. column_found a.run a.y0 a.rows (a.x + i) (get_or a.down.now i 0) (get_or a.up.now i 0)) a.at a.out.now
 
 pub overflow_cast-d : goal.overflow_cast-d
 overflow_cast-d c =
@@ -38,7 +35,7 @@ put_column-to-requires c =
     record {
       to_in_bounds = (
         room-more f q.i a.n
-            (λ j. found-two a.run a.y0 a.rows (a.x + j) (get_or a.down.now j 0) (get_or a.up.now j 0)) q.invariant.1
+            (λ j. found-two a.run a.y0 a.rows (a.x + j) (get_or a.down.now j 0) (get_or a.up.now j 0)) q.invariant
             (omega arith) c.requires.n_bound.3,
         c.requires.at_most.0 q.i (omega arith),
         c.requires.at_most.1 q.i (omega arith),
@@ -52,18 +49,16 @@ pub loop-i-preserved : goal.loop-i-preserved
 unfolding columns_found
 loop-i-preserved c =
     let a = c.args in
-    let q = c.loop-i in (
-      omega arith,
-      put-more (λ i. column_found a.run a.y0 a.rows (a.x + i) (get_or a.down.now i 0) (get_or a.up.now i 0)) q.i
-          q.invariant.1 c.put_column-to.ensures,
-    )
+    let q = c.loop-i in
+    put-more (λ i. column_found a.run a.y0 a.rows (a.x + i) (get_or a.down.now i 0) (get_or a.up.now i 0)) q.i
+    q.invariant c.put_column-to.ensures
 
 pub shape_of-out : goal.shape_of-out
-shape_of-out c = wrote-length c.loop-i.invariant.1
+shape_of-out c = wrote-length c.loop-i.invariant
 
 pub returns : goal.returns
 returns c =
     let a = c.args in
     let q = c.loop-i in
     let z : q.i ≡ a.n = omega arith in
-    rw (← z) q.invariant.1
+    rw (← z) q.invariant

@@ -1,5 +1,5 @@
 -- `outline::rows::all_rows` meets its contract. The loop's invariant: the points of the first i rows are stored, and to is the place after
--- them. The measure is m - i. Assumes nothing.
+-- them. Assumes nothing.
 use mathlib.Core.Path.{◌≡◌}
 use mathlib.Core.List.{List}
 use Prim.Native.Nat.{ℕ, ◌+◌}
@@ -13,7 +13,7 @@ unfolding rows_from
 loop-i-init c =
     let a = c.args in
     let p = member_at a.want a.w a.s.now a.levels.now a.labels.now in
-    (omega arith, put-begin (λ j. row_points a.run p a.x0 a.n (a.y0 + j)) 0 a.out.now)
+    put-begin (λ j. row_points a.run p a.x0 a.n (a.y0 + j)) 0 a.out.now
 
 pub row_points-to-requires : goal.row_points-to-requires
 unfolding rows_from
@@ -28,7 +28,7 @@ row_points-to-requires c =
         c.requires.s_len.1,
         omega arith,
         room-more (λ j. row_points a.run p a.x0 a.n (a.y0 + j)) q.i a.m
-            (λ j. row-two a.run p a.x0 a.n (a.y0 + j)) q.invariant.1 (omega arith) (omega arith),
+            (λ j. row-two a.run p a.x0 a.n (a.y0 + j)) q.invariant (omega arith) (omega arith),
       );
       run_nonzero = c.requires.run_nonzero;
     }
@@ -40,14 +40,14 @@ loop-i-preserved c =
     let q = c.loop-i in
     let p = member_at a.want a.w a.s.now a.levels.now a.labels.now in
     let f : ℕ → List (ℕ × ℕ) = λ j. row_points a.run p a.x0 a.n (a.y0 + j) in
-    (omega arith, put-more f q.i q.invariant.1 c.row_points-to.ensures)
+    put-more f q.i q.invariant c.row_points-to.ensures
 
 pub shape_of-out : goal.shape_of-out
-shape_of-out c = wrote-length c.loop-i.invariant.1
+shape_of-out c = wrote-length c.loop-i.invariant
 
 pub returns : goal.returns
 returns c =
     let a = c.args in
     let q = c.loop-i in
     let z : q.i ≡ a.m = omega arith in
-    rw (← z) q.invariant.1
+    rw (← z) q.invariant

@@ -16,7 +16,7 @@ returns-in_default c =
 pub overflow_add-x0 : goal.overflow_add-x0
 overflow_add-x0 c =
     let a = c.args in
-    let v = c.in-Ends in
+    let v = c.in-Some in
     let m = member_at a.want a.w a.s.now a.levels.now a.labels.now in
     let l = extremes-le a.run m a.x0 a.n a.y v.a v.b
     v.ensures in
@@ -25,7 +25,7 @@ overflow_add-x0 c =
 pub overflow_mul-x0 : goal.overflow_mul-x0
 overflow_mul-x0 c =
     let a = c.args in
-    let v = c.in-Ends in
+    let v = c.in-Some in
     let m = member_at a.want a.w a.s.now a.levels.now a.labels.now in
     let l = extremes-le a.run m a.x0 a.n a.y v.a v.b
     v.ensures in
@@ -34,7 +34,7 @@ overflow_mul-x0 c =
 pub overflow_add-x0-2 : goal.overflow_add-x0-2
 overflow_add-x0-2 c =
     let a = c.args in
-    let v = c.in-Ends in
+    let v = c.in-Some in
     let m = member_at a.want a.w a.s.now a.levels.now a.labels.now in
     let l = extremes-le a.run m a.x0 a.n a.y v.a v.b
     v.ensures in
@@ -43,7 +43,7 @@ overflow_add-x0-2 c =
 pub overflow_mul-x0-2 : goal.overflow_mul-x0-2
 overflow_mul-x0-2 c =
     let a = c.args in
-    let v = c.in-Ends in
+    let v = c.in-Some in
     let m = member_at a.want a.w a.s.now a.levels.now a.labels.now in
     let l = extremes-le a.run m a.x0 a.n a.y v.a v.b
     v.ensures in
@@ -52,7 +52,7 @@ overflow_mul-x0-2 c =
 pub put_two-requires : goal.put_two-requires
 put_two-requires c =
     let a = c.args in
-    let v = c.in-Ends in
+    let v = c.in-Some in
     let m = member_at a.want a.w a.s.now a.levels.now a.labels.now in
     let l = extremes-le a.run m a.x0 a.n a.y v.a v.b
     v.ensures in
@@ -64,7 +64,7 @@ put_two-requires c =
 pub returns : goal.returns
 returns c =
     let a = c.args in
-    let v = c.in-Ends in
+    let v = c.in-Some in
     let m = member_at a.want a.w a.s.now a.levels.now a.labels.now in
     wrote-ext _ _ (row-some a.run m a.x0 a.n a.y v.a v.b
     v.ensures)

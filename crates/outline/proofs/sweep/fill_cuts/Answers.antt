@@ -1,5 +1,5 @@
 -- `outline::sweep::fill_cuts` meets its contract. The loop's invariant: t is the threshold of the cell of pixel a, and the first i
--- thresholds are stored. The measure is n - i. Assumes nothing.
+-- thresholds are stored. Assumes nothing.
 use mathlib.Core.Path.{◌≡◌, refl}
 use Prim.Native.Nat.{◌+◌, ◌/◌}
 use native.Mathlib.Omega.{arith}
@@ -11,10 +11,9 @@ loop-i-preserved c =
     let a = c.args in
     let q = c.loop-i in (
       omega arith,
-      omega arith,
       c.cut_again-t.ensures,
       cuts-turn a.want a.w a.levels.now a.labels.now a.x q.i (a.y / 8) q.cuts (a.x + q.i)
-          c.cut_again-t.result q.invariant.3 (omega arith) refl c.cut_again-t.ensures,
+          c.cut_again-t.result q.invariant.2 (omega arith) refl c.cut_again-t.ensures,
     )
 
 pub returns : goal.returns
@@ -22,4 +21,4 @@ returns c =
     let a = c.args in
     let q = c.loop-i in
     let z : q.i ≡ a.n = omega arith in
-    rw (← z) q.invariant.3
+    rw (← z) q.invariant.2

@@ -1,5 +1,5 @@
 -- `pgm::steps::run` meets its contract. The loop's invariant: the steps over what is left lead from here to where those over all bytes
--- lead. The measure is what is left. Assumes nothing.
+-- lead. Assumes nothing.
 use Rattle.pgm.proofs.Runs.{run-turn, run_end}
 use Rattle.pgm.proofs.Beside.{steps-stay}
 use Rattle.pgm.specs.declared.steps.Reading.{Reading}

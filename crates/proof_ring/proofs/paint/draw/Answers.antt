@@ -9,10 +9,10 @@ pub paint_all-requires : goal.paint_all-requires
 paint_all-requires c =
     let seq : length c.sequence.new.out ≡ 1112 = c.sequence.auto.out in
     record {
-      room = room-kept c.args.plan c.args.pixels.now c.put_run.new.pixels
+      room = room-kept c.args.plan.now c.args.pixels.now c.put_run.new.pixels
           c.put_run.auto.pixels c.requires;
       version_in_bounds = omega (arith, c.requires.version.greatest);
       all_marks = c.sequence.ensures;
-      shows_2 = ground c.args.plan _ c.args.pixels.now c.put_run.new.pixels refl
+      shows_2 = ground c.args.plan.now _ c.args.pixels.now c.put_run.new.pixels refl
           c.put_run.ensures;
     }

@@ -7,8 +7,8 @@ use Rattle.proof_ring.proofs.paint.paint_dark.Goals as goal
 
 pub paint_cell-requires : goal.paint_cell-requires
 paint_cell-requires c =
-    let v = c.args.plan.version.0 in
-    let w = within-is (quarter_of v) (outer_spot v c.args.p) c.outer_spot.result c.outer_spot.ensures
+    let v = c.args.plan.now.version in
+    let w = within-is (quarter_of v) (outer_spot v c.args.p) c.outer_spot.result c.outer_spot.ensures.answer
     (outer-fits v c.args.p c.requires.room.version c.requires.p_bound) in
     record {
       room = c.requires.room;
@@ -19,15 +19,15 @@ paint_cell-requires c =
 pub paint_inner-requires : goal.paint_inner-requires
 paint_inner-requires c =
     record {
-      room = room-kept c.args.plan c.args.pixels.now c.paint_cell.new.pixels
+      room = room-kept c.args.plan.now c.args.pixels.now c.paint_cell.new.pixels
           c.paint_cell.ensures.same c.requires.room;
       p_bound = c.requires.p_bound;
     }
 
 pub returns : goal.returns
 returns c =
-    let v = c.args.plan.version.0 in
-    then-painted c.args.plan (own_inner v c.args.p) (outer_spot v c.args.p) (inner_spot v c.args.p)
+    let v = c.args.plan.now.version in
+    then-painted c.args.plan.now (own_inner v c.args.p) (outer_spot v c.args.p) (inner_spot v c.args.p)
     c.outer_spot.result
-    _ _ _ c.outer_spot.ensures
+    _ _ _ c.outer_spot.ensures.answer
     c.paint_cell.ensures c.paint_inner.ensures

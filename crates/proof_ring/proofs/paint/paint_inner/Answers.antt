@@ -7,7 +7,7 @@ use Rattle.proof_ring.proofs.paint.paint_inner.Goals as goal
 
 pub paint_cell-requires : goal.paint_cell-requires
 paint_cell-requires c =
-    let v = c.args.plan.version.0 in
+    let v = c.args.plan.now.version in
     let w = within-is (quarter_of v) (inner_spot v c.args.p) c.inner_spot.result c.inner_spot.ensures
     (inner-fits v c.args.p c.requires.room.version c.requires.p_bound) in
     record {
@@ -18,8 +18,8 @@ paint_cell-requires c =
 
 pub returns-then-own_inner : goal.returns-then-own_inner
 returns-then-own_inner c =
-    let v = c.args.plan.version.0 in
-    if-painted c.args.plan c.own_inner.result (own_inner v c.args.p)
+    let v = c.args.plan.now.version in
+    if-painted c.args.plan.now c.own_inner.result (own_inner v c.args.p)
     (inner_spot v c.args.p)
     c.inner_spot.result _ _
     c.own_inner.ensures c.if-own_inner.true
@@ -27,7 +27,7 @@ returns-then-own_inner c =
 
 pub returns-else-own_inner : goal.returns-else-own_inner
 returns-else-own_inner c =
-    let v = c.args.plan.version.0 in
-    if-left c.args.plan c.own_inner.result (own_inner v c.args.p) (inner_spot v c.args.p) _
+    let v = c.args.plan.now.version in
+    if-left c.args.plan.now c.own_inner.result (own_inner v c.args.p) (inner_spot v c.args.p) _
     c.own_inner.ensures
     c.if-own_inner.false

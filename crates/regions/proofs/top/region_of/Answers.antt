@@ -7,5 +7,5 @@ pub returns : goal.returns
 returns c =
     let a = c.args in
     region-is a.labels.now a.w a.h a.width a.height a.i (add-one a.i) c.requires.i_bound.1
-    c.span_of-b.ensures.boxed c.least-x1.ensures
-    c.least-y1.ensures
+    c.span_of-b.ensures.boxed c.min-x1.ensures
+    c.min-y1.ensures

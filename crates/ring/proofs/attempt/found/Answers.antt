@@ -38,7 +38,7 @@ returns c =
     let r = c.refine_quad-refined.ensures in
     let e = c.edge_quad-edges.ensures in
     record {
-      answer = found_some _ a.w a.h _ a.o.hull a.o.quad a.l a.most _ _ _ c.in-Found.is r.answer e.answer
+      answer = found_some _ a.w a.h _ a.o.hull a.o.quad a.l a.most _ _ _ c.in-Some.is r.answer e.answer
           c.try_quads.ensures;
       cand_past = e.cand_past;
       buf_past = past-then r.buf_past e.buf_past;

@@ -2,10 +2,10 @@
 use Rattle.ring.proofs.Traces.{fallback-none, fallback-some}
 use Rattle.ring.proofs.quads.fallback_of.Goals as goal
 
-pub returns-in_default : goal.returns-in_default
-returns-in_default c =
+pub returns-in-None : goal.returns-in-None
+returns-in-None c =
     let a = c.args in
-    fallback-some a.f a.q a.s a.l _ c.in_default.is c.accept.ensures
+    fallback-some a.f a.q a.s a.l _ c.in-None.is c.accept.ensures
 
-pub returns : goal.returns
-returns c = let a = c.args in fallback-none a.f a.q a.s a.l c.in-At.is
+pub returns-in-Some : goal.returns-in-Some
+returns-in-Some c = let a = c.args in fallback-none a.f a.q a.s a.l c.in-Some.is

@@ -11,19 +11,19 @@ returns-in_default c =
 pub returns-then-same_quad : goal.returns-then-same_quad
 returns-then-same_quad c =
     let a = c.args in
-    tried_same _ a.w a.h a.edges a.refined a.l a.hull a.most c.in-Found.is _ c.same_quad.ensures _
+    tried_same _ a.w a.h a.edges a.refined a.l a.hull a.most c.in-Some.is _ c.same_quad.ensures _
     c.if-same_quad.true c.correlate_quad-then-same_quad.ensures.answer
 
 pub returns-then-is_fixed : goal.returns-then-is_fixed
 returns-then-is_fixed c =
     let a = c.args in
-    tried-first _ a.w a.h a.edges a.refined a.l a.hull a.most c.in-Found.is _ c.same_quad.ensures
+    tried-first _ a.w a.h a.edges a.refined a.l a.hull a.most c.in-Some.is _ c.same_quad.ensures
     c.if-same_quad.false _ c.correlate_quad-t.ensures.answer _ c.is_fixed.ensures c.if-is_fixed.true
 
 pub returns : goal.returns
 returns c =
     let a = c.args in
-    tried-both _ a.w a.h a.edges a.refined a.l a.hull a.most c.in-Found.is _ c.same_quad.ensures
+    tried-both _ a.w a.h a.edges a.refined a.l a.hull a.most c.in-Some.is _ c.same_quad.ensures
     c.if-same_quad.false _ c.correlate_quad-t.ensures.answer _
     c.is_fixed.ensures _ _ c.if-is_fixed.false
     c.correlate_quad-u.ensures.answer c.better.ensures

@@ -1,17 +1,20 @@
 -- `ring::refusals::check` meets its contract: a refusal of the picture's checks stands whatever follows (check-off), and where they pass
 -- what follows counts (check-on). Assumes nothing.
 use mathlib.Core.Path.{sym, ◌∙◌}
+use Rattle.std.proofs.lemmas.Result.{err_from_is_err_and}
+use Rattle.refusal.proofs.Numbers.{number-none}
 use Rattle.picture_checks.proofs.Checked.{check-on, check-off}
 use Rattle.ring.proofs.refusals.check.Goals as goal
 
-pub returns-then-n-ne0 : goal.returns-then-n-ne0
-returns-then-n-ne0 c =
+pub returns-in_err-check_picture : goal.returns-in_err-check_picture
+returns-in_err-check_picture c =
     let a = c.args in
-    let k = c.check_picture-n.ensures.answer in
-    k ∙ check-off a.w a.h a.bytes _ (λ e. c.if-n-ne0.true (k ∙ e))
+    let q = c.in_err-check_picture in
+    let p = err_from_is_err_and c.from_residual.result c.from_residual.ensures.1 in
+    rw (p.1, p.2)
+    (q.ensures.answer ∙ check-off a.w a.h a.bytes _ (λ e. number-none q.field-0.0 (q.ensures.answer ∙ e)))
 
 pub returns : goal.returns
 returns c =
     let a = c.args in
-    let k = c.check_picture-n.ensures.answer in
-    c.check_points.ensures ∙ sym (check-on a.w a.h a.bytes _ (sym k ∙ c.if-n-ne0.false))
+    c.check_points.ensures ∙ sym (check-on a.w a.h a.bytes _ (sym c.in_ok-check_picture.ensures.answer))

@@ -10,9 +10,9 @@ use Rattle.search.proofs.lumas.has_inner.Goals as goal
 pub position-requires : goal.position-requires
 position-requires c =
     let a = c.args in
-    let g = c.requires.greatest in
-    let near : NearCell c.inner_cell-cell.result = subst NearCell (sym c.inner_cell-cell.ensures)
-    (inner-near a.v.0 a.p (omega arith)) in
+    let g = c.inner_cell-cell.ensures.version.greatest in
+    let near : NearCell c.inner_cell-cell.result = subst NearCell (sym c.inner_cell-cell.ensures.answer)
+    (inner-near a.v a.p (omega arith)) in
     record {
       in_range = near-read _ near.across;
       in_range_2 = near-read _ near.down;
@@ -21,12 +21,12 @@ position-requires c =
 pub returns-then-is_two_deep : goal.returns-then-is_two_deep
 returns-then-is_two_deep c =
     let a = c.args in
-    let g = c.requires.greatest in
-    inner-yes a.v.0 a.p _ c.is_two_deep.ensures _ _
-    c.if-is_two_deep.true (place-back a.v.0 a.p _ _ (omega arith)
-    c.inner_cell-cell.ensures c.position.ensures) c.is_at.ensures
+    let g = c.inner_cell-cell.ensures.version.greatest in
+    inner-yes a.v a.p _ c.is_two_deep.ensures _ _
+    c.if-is_two_deep.true (place-back a.v a.p _ _ (omega arith)
+    c.inner_cell-cell.ensures.answer c.position.ensures) c.eq.ensures
 
 pub returns : goal.returns
 returns c =
     let a = c.args in
-    inner-no a.v.0 a.p _ c.is_two_deep.ensures c.if-is_two_deep.false
+    inner-no a.v a.p _ c.is_two_deep.ensures c.if-is_two_deep.false

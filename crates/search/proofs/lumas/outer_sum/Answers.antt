@@ -8,13 +8,13 @@ use Rattle.search.proofs.lumas.outer_sum.Goals as goal
 pub sample_cell-requires : goal.sample_cell-requires
 sample_cell-requires c =
     let a = c.args in
-    let g = c.requires.version.greatest in
+    let g = c.outer_cell.ensures.version.greatest in
     record {
-      photo = c.requires.photo;
-      near_cell = subst NearCell (sym c.outer_cell.ensures) (outer-near a.v.0 a.p (omega arith));
+      photo = c.requires;
+      near_cell = subst NearCell (sym c.outer_cell.ensures.answer) (outer-near a.v a.p (omega arith));
     }
 
 pub returns : goal.returns
 returns c =
     let a = c.args in
-    outer-is a.gray.now a.w a.h a.t a.v.0 a.p _ _ c.outer_cell.ensures c.sample_cell.ensures
+    outer-is a.gray.now a.w a.h a.t a.v a.p _ _ c.outer_cell.ensures.answer c.sample_cell.ensures

@@ -1,6 +1,6 @@
 -- `search::lumas::ring_lumas` writes one luma after the other. Invariant: the lumas of the positions below p stand at the beginning.
--- Measure: the positions left. Assumes nothing.
-use Rattle.std.proofs.Common.{refl, arith, length-set, rules}
+-- Assumes nothing.
+use Rattle.std.proofs.Common.{◌∙◌, sym, arith, length-set, rules}
 use Rattle.search.proofs.LumaLists.{listed-none, listed-turn, listed-done}
 use Rattle.search.specs.Lumas.{luma_at, lumas_of}
 use Rattle.lcr_core.specs.Version.{positions_of}
@@ -9,35 +9,22 @@ use Rattle.search.proofs.lumas.ring_lumas.Goals as goal
 pub loop-p-init : goal.loop-p-init
 loop-p-init c =
     let a = c.args in
-    (omega arith, refl, listed-none (luma_at a.gray.now a.w a.h a.t a.v.0) a.out.now)
-
-pub luma_at-requires : goal.luma_at-requires
-luma_at-requires c =
-    record {
-      photo = c.requires.photo;
-      version = c.requires.version;
-    }
+    (omega arith, c.requires.out_len ∙ sym c.positions-n.ensures.answer, listed-none (luma_at a.gray.now a.w a.h a.t a.v) a.out.now)
 
 pub offset_bounds-out-p : goal.offset_bounds-out-p
 offset_bounds-out-p c =
     let i = c.loop-p.invariant in
     let l = c.loop-p-test.true in
     let q = c.requires.out_len in
-    let g = c.requires.version.greatest in
+    let g = c.positions-n.ensures.version.greatest in
+    let n = c.positions-n.ensures.answer in
     omega arith
 
 pub bounds-out-p : goal.bounds-out-p
 bounds-out-p c =
     let i = c.loop-p.invariant in
     let l = c.loop-p-test.true in
-    omega arith
-
-pub overflow_add-p : goal.overflow_add-p
-overflow_add-p c =
-    let i = c.loop-p.invariant in
-    let l = c.loop-p-test.true in
-    let q = c.requires.out_len in
-    let g = c.requires.version.greatest in
+    let n = c.positions-n.ensures.answer in
     omega arith
 
 pub loop-p-preserved : goal.loop-p-preserved
@@ -57,4 +44,5 @@ returns c =
     let i = c.loop-p.invariant in
     let l = c.loop-p-test.false in
     let q = c.requires.out_len in
-    listed-done _ _ _ (positions_of c.args.v.0) (omega arith) (omega arith) i.2
+    let n = c.positions-n.ensures.answer in
+    listed-done _ _ _ (positions_of c.args.v) (omega arith) (omega arith) i.2

@@ -1,5 +1,5 @@
 -- `search::versions::run` makes 65 steps, or fewer where the search has ended. Invariant: the steps left from here give the whole search,
--- and there is room for the next score. Measure: the steps left. Assumes nothing.
+-- and there is room for the next score. Assumes nothing.
 use Rattle.std.proofs.Common.{◌-◌, ◌<◌, sym, ap, ◌∙◌, subst, arith}
 use Rattle.search.proofs.Searches.{start-held, steps-step, steps-stay, steps-end}
 use Rattle.search.specs.Versions.{ScoreRoom, steps_on}

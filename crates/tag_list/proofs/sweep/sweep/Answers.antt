@@ -1,5 +1,5 @@
 -- `tag_list::sweep::sweep` meets its contract. Invariant: what is known after i tries, and the four lists are untouched past the places
--- needed. The measure is what is left of the kept regions. Assumes nothing.
+-- needed. Assumes nothing.
 use mathlib.Core.Path.{◌≡◌, subst}
 use Prim.Native.Nat.{ℕ}
 use native.Mathlib.Omega.{arith}
@@ -12,7 +12,6 @@ use Rattle.tag_list.proofs.sweep.sweep.Goals as goal
 pub loop-i-init : goal.loop-i-init
 loop-i-init c =
     let a = c.args in (
-      omega arith,
       after-begin a.gray.now a.w a.h a.most _ _ c.short_trace.ensures c.no_tags.ensures,
       worked-none _ _ _ _ _,
     )
@@ -29,44 +28,34 @@ sweep_next-s-requires c =
       k_value = p.k_value;
       most_bound = p.most_bound;
       i_bound = omega (arith, four, c.loop-i-test.true);
-      after = q.1;
-      roomy = roomy-then p.roomy q.2;
+      after = q.0;
+      roomy = roomy-then p.roomy q.1;
     }
-
-pub overflow_add-i : goal.overflow_add-i
-overflow_add-i c =
-    let p = c.requires in
-    let a = c.args in
-    omega (
-      arith,
-      kept-four (plane a.w a.gray.now) a.w a.h a.k p.k_value,
-      c.loop-i-test.true,
-    )
 
 pub loop-i-preserved : goal.loop-i-preserved
 loop-i-preserved c =
     let q = c.loop-i.invariant in
     let t = c.sweep_next-s.ensures in
-    (omega arith, t.answer, worked_then q.2 t.points)
+    (t.answer, worked_then q.1 t.points)
 
 pub shape_of-points : goal.shape_of-points
-shape_of-points c = c.loop-i.invariant.2.first.same
+shape_of-points c = c.loop-i.invariant.1.first.same
 
 pub shape_of-straight : goal.shape_of-straight
-shape_of-straight c = c.loop-i.invariant.2.second.same
+shape_of-straight c = c.loop-i.invariant.1.second.same
 
 pub shape_of-cand : goal.shape_of-cand
-shape_of-cand c = c.loop-i.invariant.2.third.same
+shape_of-cand c = c.loop-i.invariant.1.third.same
 
 pub shape_of-buf : goal.shape_of-buf
-shape_of-buf c = c.loop-i.invariant.2.fourth.same
+shape_of-buf c = c.loop-i.invariant.1.fourth.same
 
 pub returns : goal.returns
 returns c =
     let a = c.args in
     let q = c.loop-i in
-    let e : q.i ≡ a.k.kept = omega (arith, q.invariant.0) in
+    let e : q.i ≡ a.k.kept = omega arith in
     record {
-      answer = subst (λ (i : ℕ). After a.gray.now a.w a.h a.most i q.s) e q.invariant.1;
-      points = q.invariant.2;
+      answer = subst (λ (i : ℕ). After a.gray.now a.w a.h a.most i q.s) e q.invariant.0;
+      points = q.invariant.1;
     }

@@ -12,4 +12,4 @@ unfolding with_fix
 returns c =
     let s = c.args.s in
     c.with_tag.ensures ∙ ap (with_tag s) c.tag_of-t.ensures
-    ∙ ap (with_fix s) (sym c.in-At.is)
+    ∙ ap (with_fix s) (sym c.in-Some.is)

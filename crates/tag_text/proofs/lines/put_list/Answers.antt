@@ -1,5 +1,5 @@
 -- `tag_text::lines::put_list` meets its contract. The loop's invariant: the lines of the first k tags are stored, with 178 bytes for
--- each at most. The measure is n - k. Assumes nothing.
+-- each at most. Assumes nothing.
 use Rattle.std.proofs.Common.{◌≡◌, ℕ, ◌<◌, length, ap, arith, rules}
 use Rattle.laws.proofs.Stores.{stored-length, stored-ext}
 use Rattle.tag_text.specs.Lines.{tag_lines}
@@ -9,12 +9,12 @@ use Rattle.tag_text.proofs.lines.put_list.Goals as goal
 pub loop-k-init : goal.loop-k-init
 loop-k-init c =
     let a = c.args in
-    (omega arith, list-begin a.list a.at a.out.now, omega arith)
+    (list-begin a.list a.at a.out.now, omega arith)
 
 pub put_tag-to-requires : goal.put_tag-to-requires
 put_tag-to-requires c =
     let q = c.loop-k in
-    omega (arith, q.invariant.2, stored-length q.invariant.1, c.requires)
+    omega (arith, q.invariant.1, stored-length q.invariant.0, c.requires)
 
 pub loop-k-preserved : goal.loop-k-preserved
 loop-k-preserved c =
@@ -22,17 +22,17 @@ loop-k-preserved c =
     let q = c.loop-k in
     let p = c.put_tag-to in
     let within : q.k < length a.list = search rules in
-    (omega arith, list-turn a.list q.k within q.invariant.1 p.ensures.out, omega (arith, p.ensures.most, q.invariant.2))
+    (list-turn a.list q.k within q.invariant.0 p.ensures.out, omega (arith, p.ensures.most, q.invariant.1))
 
 pub shape_of-out : goal.shape_of-out
-shape_of-out c = stored-length c.loop-k.invariant.1
+shape_of-out c = stored-length c.loop-k.invariant.0
 
 pub returns : goal.returns
 returns c =
     let a = c.args in
     let q = c.loop-k in
-    let z : q.k ≡ a.n = omega (arith, q.invariant.0) in
+    let z : q.k ≡ a.n = omega arith in
     record {
-      out = stored-ext (tag_lines a.list q.k) (tag_lines a.list a.n) (ap (λ (n : ℕ). tag_lines a.list n) z) q.invariant.1;
-      most = omega (arith, q.invariant.2, q.invariant.0);
+      out = stored-ext (tag_lines a.list q.k) (tag_lines a.list a.n) (ap (λ (n : ℕ). tag_lines a.list n) z) q.invariant.0;
+      most = omega (arith, q.invariant.1);
     }

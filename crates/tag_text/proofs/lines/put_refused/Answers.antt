@@ -9,6 +9,6 @@ returns c =
     let n = c.put_count-b.ensures in
     let e = c.put_byte.ensures in
     record {
-      out = refused-stored c.args.n w n.out e;
+      out = refused-stored _ _ c.number.ensures w n.out e;
       most = omega (arith, w.next, n.most, e.next);
     }

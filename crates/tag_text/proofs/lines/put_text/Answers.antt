@@ -3,18 +3,18 @@ use Rattle.std.proofs.Common.{arith}
 use Rattle.tag_text.proofs.Texts.{given-text, refused-text}
 use Rattle.tag_text.proofs.lines.put_text.Goals as goal
 
-pub returns-in-Given : goal.returns-in-Given
-returns-in-Given c =
+pub returns-in-Ok : goal.returns-in-Ok
+returns-in-Ok c =
     let t = c.put_tags.ensures in
     record {
-      out = given-text c.args.a c.in-Given.is t.out;
+      out = given-text _ _ c.in-Ok.is t.out;
       most = t.most;
     }
 
-pub returns-in-Refused : goal.returns-in-Refused
-returns-in-Refused c =
+pub returns-in-Err : goal.returns-in-Err
+returns-in-Err c =
     let t = c.put_refused.ensures in
     record {
-      out = refused-text c.args.a _ c.in-Refused.is t.out;
+      out = refused-text _ _ c.in-Err.is t.out;
       most = omega (arith, t.most);
     }

@@ -1,5 +1,5 @@
 -- `traylist_text::describe::all_regions` meets its contract. The loop's invariant: the lines of the first i regions are stored.
--- The measure is what is left of the regions. Assumes nothing.
+-- Assumes nothing.
 use Rattle.regions.specs.Regions.{no_region}
 use Rattle.traylist_text.proofs.Texts.{region-nth, tray-nth}
 use lib.ListN.{get_or}
@@ -17,7 +17,7 @@ use Rattle.traylist_text.proofs.describe.all_regions.Goals as goal
 pub loop-i-init : goal.loop-i-init
 loop-i-init c =
     let a = c.args in
-    (omega arith, first-none (plane a.w a.s.now) a.w a.h a.at a.out.now)
+    first-none (plane a.w a.s.now) a.w a.h a.at a.out.now
 
 pub offset_bounds-list-i : goal.offset_bounds-list-i
 offset_bounds-list-i c =
@@ -41,7 +41,7 @@ region_lines-to-requires c =
       tray_picture = e.tray_picture;
       gridded = e.gridded;
       tray_region = tray-nth a.s.now a.w a.h e.tray_picture a.k e.k_value q.i (omega arith);
-      at_in_bounds = first-room a.s.now a.w a.h e.tray_picture q.i a.k.kept n (omega arith) (omega (arith, e.at_in_bounds)) q.invariant.1;
+      at_in_bounds = first-room a.s.now a.w a.h e.tray_picture q.i a.k.kept n (omega arith) (omega (arith, e.at_in_bounds)) q.invariant;
     }
 
 pub loop-i-preserved : goal.loop-i-preserved
@@ -49,19 +49,16 @@ loop-i-preserved c =
     let a = c.args in
     let e = c.requires in
     let q = c.loop-i in
-    let p = plane a.w a.s.now in (
-      omega arith,
-      first_more p a.w a.h q.i (get_or a.k.list q.i no_region)
-          (region-nth p a.w a.h a.k e.k_value q.i) q.invariant.1
-          c.region_lines-to.ensures,
-    )
+    let p = plane a.w a.s.now in
+    first_more p a.w a.h q.i (get_or a.k.list q.i no_region) (region-nth p a.w a.h a.k e.k_value q.i) q.invariant
+    c.region_lines-to.ensures
 
 pub shape_of-out : goal.shape_of-out
-shape_of-out c = stored-length c.loop-i.invariant.1
+shape_of-out c = stored-length c.loop-i.invariant
 
 pub returns : goal.returns
 returns c =
     let a = c.args in
     let q = c.loop-i in
     let z : q.i ≡ a.k.kept = omega arith in
-    subst (λ (n : ℕ). Stored a.at (first_lines (plane a.w a.s.now) a.w a.h n) a.out.now q.out q.to) z q.invariant.1
+    subst (λ (n : ℕ). Stored a.at (first_lines (plane a.w a.s.now) a.w a.h n) a.out.now q.out q.to) z q.invariant

@@ -1,13 +1,9 @@
 -- `traylist_text::describe::all_regions` meets its contract. The loop's invariant: the lines of the first i regions are stored.
--- The measure is what is left of the regions. Assumes nothing.
+-- Assumes nothing.
 use Rattle.laws.specs.Lent.{Stored}
 use Rattle.traylist_text.specs.Listing.{first_lines}
 use Rattle.laws.specs.Plane.{plane}
-use Prim.Native.Nat.{◌-◌, ◌≤◌}
 use Rattle.traylist_text.proofs.describe.all_regions.Given as goal
 
 abbrev pub invariant-loop-i : goal.invariant-loop-i
-invariant-loop-i l = (l.i ≤ l.kept) × Stored l.at (first_lines (plane l.w l.s) l.w l.h l.i) l.initial.out l.out l.to
-
-abbrev pub decreases-loop-i : goal.decreases-loop-i
-decreases-loop-i l = l.kept - l.i
+invariant-loop-i l = Stored l.at (first_lines (plane l.w l.s) l.w l.h l.i) l.initial.out l.out l.to

@@ -10,9 +10,9 @@ pub corners-requires : goal.corners-requires
 corners-requires c =
     record {
       near_points = found-near c.quad.result c.args.p.now
-          c.quad.ensures c.in-Found.q c.in-Found.is c.requires.near_points;
+          c.quad.ensures c.in-Some.q c.in-Some.is c.requires.near_points;
       at_in_bounds = omega (arith, c.requires.at_in_bounds);
     }
 
 pub returns : goal.returns
-returns c = found-line c.quad.result c.args.p.now c.quad.ensures c.in-Found.q c.in-Found.is c.corners.ensures
+returns c = found-line c.quad.result c.args.p.now c.quad.ensures c.in-Some.q c.in-Some.is c.corners.ensures

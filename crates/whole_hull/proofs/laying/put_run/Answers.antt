@@ -1,5 +1,4 @@
--- `whole_hull::laying::put_run` meets its contract. The loop's invariant: the first i vertices are stored. The measure is how many are
--- left. Assumes nothing.
+-- `whole_hull::laying::put_run` meets its contract. The loop's invariant: the first i vertices are stored. Assumes nothing.
 use mathlib.Core.Path.{◌≡◌, refl, ◌∙◌, subst}
 use Prim.Native.Nat.{ℕ}
 use native.Mathlib.Omega.{arith}
@@ -13,15 +12,15 @@ use Rattle.whole_hull.proofs.laying.put_run.Goals as goal
 pub loop-i-init : goal.loop-i-init
 loop-i-init c =
     let s = c.args in
-    (omega arith, refl, run-begin (vertex s.back s.a.now s.s.now) s.at s.out.now)
+    (refl, run-begin (vertex s.back s.a.now s.s.now) s.at s.out.now)
 
 pub put_vertex-m-requires : goal.put_vertex-m-requires
 put_vertex-m-requires c =
     let q = c.loop-i in
     let l = c.loop-i-test.true in
     let r = c.requires.chain_places.room in
-    let e = run-place (vertex c.args.back c.args.a.now c.args.s.now) q.i c.args.at q.invariant.2 in
-    let z = q.invariant.1 in
+    let e = run-place (vertex c.args.back c.args.a.now c.args.s.now) q.i c.args.at q.invariant.1 in
+    let z = q.invariant.0 in
     let w = c.requires.k_in_bounds in
     record {
       a_len = (c.requires.chain_places.size, omega arith);
@@ -33,15 +32,14 @@ pub loop-i-preserved : goal.loop-i-preserved
 loop-i-preserved c =
     let q = c.loop-i in
     let r = c.put_vertex-m in (
-      omega arith,
-      stored-length r.ensures ∙ q.invariant.1,
-      run_step (vertex c.args.back c.args.a.now c.args.s.now) q.i c.args.at q.invariant.2 r.ensures,
+      stored-length r.ensures ∙ q.invariant.0,
+      run_step (vertex c.args.back c.args.a.now c.args.s.now) q.i c.args.at q.invariant.1 r.ensures,
     )
 
 pub returns : goal.returns
 returns c =
     let g = c.args in
     let q = c.loop-i in
-    let z : q.i ≡ g.k = omega (arith, q.invariant.0) in
+    let z : q.i ≡ g.k = omega arith in
     subst (λ (n : ℕ). Stored g.at (numbers_of (list_up_to (vertex g.back g.a.now g.s.now) n)) g.out.now q.out q.m) z
-    q.invariant.2
+    q.invariant.1

@@ -1,7 +1,5 @@
--- `whole_hull::laying::put_run` meets its contract. The loop's invariant: the first i vertices are stored. The measure is how many are
--- left. Assumes nothing.
+-- `whole_hull::laying::put_run` meets its contract. The loop's invariant: the first i vertices are stored. Assumes nothing.
 use mathlib.Core.Path.{◌≡◌}
-use Prim.Native.Nat.{◌-◌, ◌≤◌}
 use lib.ListN.{length}
 use Rattle.laws.specs.Lent.{Stored}
 use Rattle.hull.specs.Points.{numbers_of}
@@ -10,7 +8,4 @@ use Rattle.whole_hull.proofs.laying.put_run.Given as goal
 
 abbrev pub invariant-loop-i : goal.invariant-loop-i
 invariant-loop-i l =
-    (l.i ≤ l.k) × (length l.out ≡ length l.initial.out) × Stored l.at (numbers_of (list_up_to (vertex l.back l.a l.s) l.i)) l.initial.out l.out l.m
-
-abbrev pub decreases-loop-i : goal.decreases-loop-i
-decreases-loop-i l = l.k - l.i
+    (length l.out ≡ length l.initial.out) × Stored l.at (numbers_of (list_up_to (vertex l.back l.a l.s) l.i)) l.initial.out l.out l.m

@@ -1,5 +1,5 @@
 -- `whole_quad::sides::most` meets its contract. The loop's invariant: what is kept are points, and the folds over the points from i on give
--- the farthest of either side. The measure is the number of points left. Assumes nothing.
+-- the farthest of either side. Assumes nothing.
 use mathlib.Core.Path.{ap, ◌∙◌}
 use Prim.Native.Nat.{ℕ, ◌-◌, ◌<◌}
 use native.Mathlib.Omega.{arith}
@@ -16,7 +16,6 @@ loop-i-init c =
     let p = a.p.now in (
       c.requires.a_bound.0,
       c.requires.a_bound.0,
-      omega arith,
       omega arith,
       keep-begin (side_at p a.a a.b) a.a (many p) 268435456,
       keep-begin (side_at p a.b a.a) a.a (many p) 268435456,
@@ -39,14 +38,13 @@ loop-i-preserved c =
       kept_in q.left.at q.i (536870912 - q.left.val) (536870912 - s.result) l.result.at (536870912 - l.result.val) (many p)
           l.ensures.0 q.invariant.1 h,
       l.ensures.1,
-      omega arith,
       keep-turn (side_at p a.a a.b) (many p) q.i q.right.at r.result.at q.right.val r.result.val h
           (r.ensures ∙ kept-at (side_at p a.a a.b) q.right.at q.i q.right.val s.result s.ensures.0)
-          ∙ q.invariant.4,
+          ∙ q.invariant.3,
       keep-turn (side_at p a.b a.a) (many p) q.i q.left.at l.result.at (536870912 - q.left.val)
           (536870912 - l.result.val) h
           (l.ensures.0 ∙ kept-at (side_at p a.b a.a) q.left.at q.i (536870912 - q.left.val) (536870912 - s.result) back)
-          ∙ q.invariant.5,
+          ∙ q.invariant.4,
     )
 
 pub returns : goal.returns
@@ -55,9 +53,9 @@ returns c =
     let p = a.p.now in
     let q = c.loop-i in
     record {
-      right = (keep-end (side_at p a.a a.b) (many p) q.i q.right.at q.right.val (omega arith) ∙ q.invariant.4, q.invariant.0);
+      right = (keep-end (side_at p a.a a.b) (many p) q.i q.right.at q.right.val (omega arith) ∙ q.invariant.3, q.invariant.0);
       left = (
-        keep-end (side_at p a.b a.a) (many p) q.i q.left.at (536870912 - q.left.val) (omega arith) ∙ q.invariant.5,
+        keep-end (side_at p a.b a.a) (many p) q.i q.left.at (536870912 - q.left.val) (omega arith) ∙ q.invariant.4,
         q.invariant.1,
       );
     }

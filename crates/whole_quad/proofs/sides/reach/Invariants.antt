@@ -1,5 +1,5 @@
 -- `whole_quad::sides::reach` meets its contract. The loop's invariant: the fold over the pairs of i with j and later points, from one more
--- than what is kept, finds the reach. The measure is the number of points left. Assumes nothing.
+-- than what is kept, finds the reach. Assumes nothing.
 use mathlib.Core.List.{map}
 use mathlib.Core.Path.{◌≡◌}
 use Prim.Native.Nat.{◌+◌, ◌-◌, ◌≤◌, ◌<◌}
@@ -13,6 +13,3 @@ abbrev pub invariant-loop-j : goal.invariant-loop-j
 invariant-loop-j l =
     (l.i < l.n) × (l.far ≤ 134217728)
     × ((keep ltb (apart l.p) (0, 0) (l.far + 1) (map (with-i l.i) (range l.j (l.n - l.j)))).1 ≡ reach_of l.p l.i)
-
-abbrev pub decreases-loop-j : goal.decreases-loop-j
-decreases-loop-j l = l.n - l.j

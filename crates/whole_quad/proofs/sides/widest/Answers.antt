@@ -1,5 +1,5 @@
 -- `whole_quad::sides::widest` meets its contract. The loop's invariant: what is kept is a point before the last, and the fold over the
--- reaches from i on gives the widest. The measure is the number of points left. Assumes nothing.
+-- reaches from i on gives the widest. Assumes nothing.
 use mathlib.Core.Path.{◌∙◌}
 use Prim.Native.Nat.{◌-◌, ◌<◌}
 use native.Mathlib.Omega.{arith}
@@ -9,7 +9,7 @@ use Rattle.whole_quad.proofs.Pairs.{keep-begin, keep-turn, keep-end, kept-at, ke
 use Rattle.whole_quad.proofs.sides.widest.Goals as goal
 
 pub loop-i-init : goal.loop-i-init
-loop-i-init c = let p = c.args.p.now in (omega arith, omega arith, keep-begin (reach_of p) 0 (many p - 1) 0)
+loop-i-init c = let p = c.args.p.now in (omega arith, keep-begin (reach_of p) 0 (many p - 1) 0)
 
 pub greater-k-requires : goal.greater-k-requires
 greater-k-requires c = tt
@@ -22,13 +22,12 @@ loop-i-preserved c =
     let s = c.reach in
     let r = c.greater-k in (
       kept_in q.k.at q.i q.k.val s.result r.result.at r.result.val (many p - 1) r.ensures q.invariant.0 h,
-      omega arith,
       keep-turn (reach_of p) (many p - 1) q.i q.k.at r.result.at q.k.val r.result.val h
-          (r.ensures ∙ kept-at (reach_of p) q.k.at q.i q.k.val s.result s.ensures) ∙ q.invariant.2,
+          (r.ensures ∙ kept-at (reach_of p) q.k.at q.i q.k.val s.result s.ensures) ∙ q.invariant.1,
     )
 
 pub returns : goal.returns
 returns c =
     let p = c.args.p.now in
     let q = c.loop-i in
-    (keep-end (reach_of p) (many p - 1) q.i q.k.at q.k.val (omega arith) ∙ q.invariant.2, omega arith)
+    (keep-end (reach_of p) (many p - 1) q.i q.k.at q.k.val (omega arith) ∙ q.invariant.1, omega arith)

@@ -1,10 +1,7 @@
 -- `word_numbers::floats::bits32` meets its contract. Assumes nothing.
+use mathlib.Core.Path.{sym, ◌∙◌}
 use Rattle.word_numbers.proofs.Patterns.{bits-32}
-use Rattle.ieee.proofs.Tests.{ne-no-nan}
 use Rattle.word_numbers.proofs.floats.bits32.Goals as goal
 
-pub returns-then-x : goal.returns-then-x
-returns-then-x c = bits-32 c.args.x c.if-x.true
-
-pub float_to_bits-result : goal.float_to_bits-result
-float_to_bits-result c = ne-no-nan _ c.if-x.false
+pub returns-then-is_nan : goal.returns-then-is_nan
+returns-then-is_nan c = bits-32 c.args.x (sym c.is_nan.ensures.value ∙ c.if-is_nan.true)

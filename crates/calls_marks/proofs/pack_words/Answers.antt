@@ -1,7 +1,0 @@
--- `pack_words` walks the words. Measure: those left. Assumes nothing.
-use native.Mathlib.Omega.{arith}
-use lib.ListN.{length-set}
-use Rattle.calls_marks.proofs.pack_words.Goals as goal
-
-pub loop-k-preserved : goal.loop-k-preserved
-loop-k-preserved c = (omega arith, simp length-set (omega arith))

@@ -1,8 +1,0 @@
--- `medians::select::larger` meets its contract: by the test. Assumes nothing.
-use Rattle.medians.proofs.select.larger.Goals as goal
-
-pub returns-then-x-y : goal.returns-then-x-y
-returns-then-x-y c = rw c.if-x-y.true
-
-pub returns-else-x-y : goal.returns-else-x-y
-returns-else-x-y c = rw c.if-x-y.false
