@@ -1,7 +1,7 @@
 -- The finder's checks and its answer: then-first, then_next, of a check that follows others; Passed, passed, what an accepted call knows;
--- picture-taken, the picture door's answer in it; given_is, refused-is.
+-- picture-accepted, picture-taken, the picture door's answer in it; given_is, refused-is.
 --     a check that follows others: then-first, then_next, refuse-not, refuse-on, find-grids, find-short, find-version, find_none
---     what an accepted call knows: Passed, passed, picture-taken
+--     what an accepted call knows: Passed, passed, picture-accepted, picture-taken
 --     the answer: given-none, given_is, refused-is
 --     the lent lists: refused-levels, refused-labels, refused-stack, given-past
 -- Assumes nothing.
@@ -14,10 +14,13 @@ use lib.Dec.{leb, eqb}
 use lib.ListN.{length}
 use lib.Ieee.{Float}
 use borrow.Author.Tests.{leb-true, eqb-true, ne_eqb}
+use Rattle.std.specs.Prelude.{Result, Ok, Err}
 use Rattle.laws.specs.Check.{or_refuse}
 use Rattle.laws.specs.Plane.{plane}
 use Rattle.laws.specs.Lent.{UntouchedPast}
 use Rattle.laws.specs.Said.{Said, refuse, give}
+use Rattle.refusal.specs.Numbers.{said}
+use Rattle.refusal.specs.declared.Refusal.{Refusal}
 use Rattle.laws.proofs.Bools.{and_left, and_right}
 use Rattle.picture_checks.specs.Picture.{is_side}
 use Rattle.picture_checks.proofs.Checked.{check-step, side-in}
@@ -109,7 +112,19 @@ passed w h bytes levels labels stack a b c d most e =
       version = version-in most u.0;
     }
 
--- the regions that the picture door gives
+-- the picture door's answer in an accepted call
+accepted : (n : ℕ) (k : Kept) (r : Result Kept Refusal) → said r ≡ door.answer_by n k → n ≡ 0 → r ≡ Ok k
+accepted zero k (Ok a) e z = cc
+accepted zero k (Err x) e z = cc
+accepted (suc n) k r e z = cc
+
+pub picture-accepted : (s : List ℕ) (w h levels labels stack : ℕ) (r : Result Kept Refusal)
+    → said r ≡ picture_answer s w h levels labels stack → check_grids w h (length s) levels labels stack ≡ 0
+    → r ≡ Ok (kept_regions (plane w s) w h)
+picture-accepted s w h levels labels stack r e z =
+    accepted (check_grids w h (length s) levels labels stack) (kept_regions (plane w s) w h) r e z
+
+-- the regions that it gives
 taken : (k : Kept) (n : ℕ) (r : Kept) → give k ≡ door.answer_by n r → k ≡ r
 taken k zero r e = cc
 taken k (suc n) r e = cc

@@ -82,6 +82,20 @@ fn quick_root(m: u64, b: u32) -> u64
     near_root(m)
 }
 
+// The pattern that `guess` takes for the root of n: b from 2^23 on, else one from there on with the
+// digits and the exponent's parity of n, which is from 2^46 on.
+fn guessable(b: u32, n: u64) -> u32
+    requires { n < 281474976710656 }
+{
+    if 0x80_0000 <= b {
+        return b;
+    }
+    if n < 0x8000_0000_0000 {
+        return (n / 0x80_0000) as u32;
+    }
+    (n / 0x100_0000) as u32 + 0x80_0000
+}
+
 // The pattern of the root of the value of a positive, finite pattern.
 pub fn root_bits(b: u32) -> u32
     requires b_nonzero { 0 < b }
@@ -100,5 +114,5 @@ pub fn root_bits(b: u32) -> u32
         n = n * 4;
         k = k - 1;
     }
-    k * 0x80_0000 + (quick_root(n, b) as u32)
+    k * 0x80_0000 + (quick_root(n, guessable(b, n)) as u32)
 }

@@ -2,8 +2,8 @@
 --     sides-none, sides-turn                 the two sides, one number further
 --     total_first, total-turn                the sum, one number further
 --     between-low, between-high, between-both  the threshold between two sides, in the three cases of the code
---     round_is, mean-is, round-next, split-from-mean  a round, the mean before the first, the split after one round
---                                            more, and after four from the mean
+--     round_is, mean-is, round-next, split-from-mean, split-is  a round, the mean before the first, the split after one round
+--                                            more, after four from the mean, and from the sum
 --     same_none, same_turn                   numbers on one side of two thresholds, one number further
 --     stays                                  a round after which no number changes sides is the last that moves the threshold
 -- Assumes nothing.
@@ -75,6 +75,11 @@ pub split-from-mean : (w : List Float) {m a b c d : Float} → m ≡ split_after
     → c ≡ split_round w b → d ≡ split_round w c → d ≡ split w
 unfolding split split_after
 split-from-mean w em ea eb ec ed = round-next w 3 (round-next w 2 (round-next w 1 (round-next w 0 em ea) eb) ec) ed
+
+pub split-is : (w : List Float) (total m a b c d : Float) (n : ℕ) → n ≡ length w → total ≡ total_to w (length w - 1)
+    → m ≡ div binary32 total (of_int binary32 (pos n))
+    → a ≡ split_round w m → b ≡ split_round w a → c ≡ split_round w b → d ≡ split_round w c → d ≡ split w
+split-is w total m a b c d n en et em ea eb ec ed = split-from-mean w (em ∙ mean-is w total n en et) ea eb ec ed
 
 -- ---- a round after which no number changes sides
 pub same_none : (w : List Float) (a b : Float) → SameSides w a b 0

@@ -1,4 +1,4 @@
-// What is done with each value of a list: the doors' test, distances; then the median
+// What is done with each value of a list: the doors' test, copies, distances; then the median
 // distance from the median.
 ghost use Rattle.std.specs.Prelude.{◌≡◌, true, map, length};
 ghost use Rattle.medians.specs.Median.{Numbers, all_usable, usable, away, mad_sigma};
@@ -21,6 +21,18 @@ pub(crate) fn all_fit(v: &[f32]) -> bool
         ok &= fit(*x);
     }
     ok
+}
+
+// Copies a list to one of as many places.
+// Kept: the library's `copy_from_slice` is a call of C's memmove here, which a static library would
+// need from outside.
+fn copy(to: &mut [f32], from: &[f32])
+    requires { length to.old ≡ length from.now }
+    ensures { to.new ≡ from.now }
+{
+    for (i, x) in from.iter().enumerate() {
+        to[i] = *x;
+    }
 }
 
 // The distance of x from c.
@@ -47,7 +59,7 @@ pub(crate) fn spread(work: &mut [f32], values: &[f32]) -> f32
     requires numbers { Numbers values.now }
     ensures { result ≡ mad_sigma values.now }
 {
-    work.copy_from_slice(values);
+    copy(work, values);
     let c = select::middle(work);
     distances(work, values, c);
     let d = select::middle(work);

@@ -130,7 +130,10 @@ fn all_columns(
     let mut i: usize = 0;
     // Kept: a step is up to 64 columns; a `for` counts one.
     while i < n {
-        let wide = (n - i).min(64);
+        let left = n - i;
+        // Kept: by the library's `min` the compiler does not see in `scan_columns` that a strip has at most
+        // 64 columns, and leaves the loop over them rolled up.
+        let wide = if left < 64 { left } else { 64 };
         let x = x0 + i;
         to = strip(s, levels, labels, want, run, w, h, x, wide, y0, m, out, to);
         i += wide;

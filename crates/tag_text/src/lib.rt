@@ -1,9 +1,9 @@
-// The tags of a picture as text, a line for each; and what refusals mean, in words.
+// The tags of a picture as text, a line for each; and what the numbers of refusals mean, in words.
 // Everything of the program `tags` but reading and writing.
 #![tactic(auto)]
 
 ghost use Rattle.std.specs.Prelude.{◌≡◌, ◌≤◌, [], ◌∷◌, length, replicate};
-ghost use Rattle.refusal.specs.Numbers.{number_of, said};
+ghost use Rattle.refusal.specs.Numbers.{said};
 ghost use Rattle.text.specs.Text.{line_of, refused_word};
 ghost use Rattle.tag_text.specs.Lines.{answer_text, filled};
 
@@ -45,13 +45,13 @@ pub fn text(a: Result<Tags, Refusal>) -> Printed
 }
 
 // The text of a refusal before there is an answer.
-pub fn refused(r: Refusal) -> Printed
-    ensures bytes { result.bytes ≡ filled (line_of refused_word (number_of r ∷ [])) }
-    ensures len { result.len ≡ length (line_of refused_word (number_of r ∷ [])) }
+pub fn refused(n: u32) -> Printed
+    ensures bytes { result.bytes ≡ filled (line_of refused_word (n ∷ [])) }
+    ensures len { result.len ≡ length (line_of refused_word (n ∷ [])) }
     ensures most { result.len ≤ length result.bytes }
 {
     let mut bytes = room();
-    let end = lines::put_refused(&mut bytes, 0, r);
+    let end = lines::put_refused(&mut bytes, 0, n);
     Printed {
         bytes: bytes,
         len: end,

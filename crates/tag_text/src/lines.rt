@@ -2,7 +2,7 @@
 // those that a tag has.
 ghost use Rattle.std.specs.Prelude.{◌≡◌, ◌+◌, ◌*◌, ◌≤◌, min, [], ◌∷◌, length};
 ghost use Rattle.laws.specs.Lent.{Stored};
-ghost use Rattle.refusal.specs.Numbers.{number_of, said};
+ghost use Rattle.refusal.specs.Numbers.{said};
 ghost use Rattle.text.specs.Text.{decimal, line_of, refused_word};
 ghost use Rattle.tag_text.specs.Lines.{yes_or_no, point_text, corners_text, ring_text, pose_text};
 ghost use Rattle.tag_text.specs.Lines.{tag_line, tag_lines, tags_text, answer_text};
@@ -131,13 +131,13 @@ fn put_tags(out: &mut [u8], t: Tags) -> usize
 }
 
 // The line of a refusal.
-pub(crate) fn put_refused(out: &mut [u8], at: usize, r: Refusal) -> usize
+pub(crate) fn put_refused(out: &mut [u8], at: usize, n: u32) -> usize
     requires { at + 19 ≤ length out.old }
-    ensures out { Stored at (line_of refused_word (number_of r ∷ [])) out.old out.new result }
+    ensures out { Stored at (line_of refused_word (n ∷ [])) out.old out.new result }
     ensures most { result ≤ at + 19 }
 {
     let a = put_word(out, at, b"refused");
-    let b = put_count(out, a, r.number());
+    let b = put_count(out, a, n);
     put_byte(out, b, b'\n')
 }
 
@@ -149,6 +149,6 @@ pub(crate) fn put_text(out: &mut [u8], a: Result<Tags, Refusal>) -> usize
 {
     match a {
         Ok(t) => put_tags(out, t),
-        Err(r) => put_refused(out, 0, r),
+        Err(r) => put_refused(out, 0, r.number()),
     }
 }

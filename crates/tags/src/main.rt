@@ -101,7 +101,7 @@ fn print(p: Printed)
 // Writes to standard error what a refusal means.
 fn explain(r: Refusal) {
     let mut line = [0u8; 127];
-    let len = tag_text::meaning::put_refusal(&mut line, r);
+    let len = tag_text::meaning::put_refusal(&mut line, r.number());
     io::write_all(STDERR_FILENO, &line[..len]);
 }
 
@@ -111,7 +111,7 @@ fn read(room: &mut [u8])
 {
     match input::read_file(room, 2048) {
         Err(r) => {
-            print(tag_text::refused(r));
+            print(tag_text::refused(r.number()));
             explain(r);
         }
         Ok(p) => {

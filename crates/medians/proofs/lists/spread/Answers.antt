@@ -8,14 +8,14 @@ use Rattle.medians.proofs.Numbers.{away-numbers, spread-is}
 use Rattle.medians.proofs.lists.spread.Goals as goal
 
 pub middle-c-requires : goal.middle-c-requires
-middle-c-requires c = subst Numbers (sym c.copy_from_slice.ensures.after) c.requires.numbers
+middle-c-requires c = subst Numbers (sym c.copy.ensures) c.requires.numbers
 
 pub middle-d-requires : goal.middle-d-requires
 middle-d-requires c =
-    let u : all_usable c.copy_from_slice.new.self ≡ true = ap all_usable c.copy_from_slice.ensures.after ∙ c.requires.values_value in
+    let u : all_usable c.copy.new.to ≡ true = ap all_usable c.copy.ensures ∙ c.requires.values_value in
     subst Numbers (sym c.distances.ensures) (away-numbers _ _ c.requires.values_value (c.middle-c.ensures.answer u))
 
 pub returns : goal.returns
 returns c =
     spread-is c.args.values.now c.distances.new.to c.middle-c.result c.middle-d.result
-    (c.middle-c.ensures.v.0 ∙ ap median c.copy_from_slice.ensures.after) c.middle-d.ensures.v.0 c.distances.ensures
+    (c.middle-c.ensures.v.0 ∙ ap median c.copy.ensures) c.middle-d.ensures.v.0 c.distances.ensures

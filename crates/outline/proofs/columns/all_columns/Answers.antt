@@ -18,15 +18,14 @@ pub strip-to-requires : goal.strip-to-requires
 strip-to-requires c =
     let a = c.args in
     let q = c.loop-i in
-    let wide = c.min-wide in
     let p = member_at a.want a.w a.s.now a.levels.now a.labels.now in
     record {
       grids = c.requires.grids;
       columns = record { bytes = c.requires.columns.bytes; across = omega arith; down = c.requires.columns.down; some = c.requires.columns.some };
       n_nonzero = (
-        omega (arith, wide.ensures),
-        omega (arith, wide.ensures),
-        room-strip a.run p a.y0 a.m a.x0 q.i wide.result a.n q.invariant.1 (omega arith) c.requires.n_in_bounds,
+        omega arith,
+        omega arith,
+        room-strip a.run p a.y0 a.m a.x0 q.i _ a.n q.invariant.1 (omega arith) c.requires.n_in_bounds,
       );
       run_nonzero = c.requires.run_nonzero;
     }
@@ -35,9 +34,8 @@ pub loop-i-preserved : goal.loop-i-preserved
 loop-i-preserved c =
     let a = c.args in
     let q = c.loop-i in
-    let wide = c.min-wide in
     let p = member_at a.want a.w a.s.now a.levels.now a.labels.now in
-    (omega arith, strip-more a.run p a.y0 a.m a.x0 q.i wide.result q.invariant.1 c.strip-to.ensures)
+    (omega arith, strip-more a.run p a.y0 a.m a.x0 q.i _ q.invariant.1 c.strip-to.ensures)
 
 pub shape_of-out : goal.shape_of-out
 shape_of-out c = wrote-length c.loop-i.invariant.1

@@ -1,5 +1,5 @@
 -- `tag_text::lines::put_refused` meets its contract. Assumes nothing.
-use Rattle.std.proofs.Common.{arith}
+use Rattle.std.proofs.Common.{refl, arith}
 use Rattle.tag_text.proofs.Texts.{refused-stored}
 use Rattle.tag_text.proofs.lines.put_refused.Goals as goal
 
@@ -9,6 +9,6 @@ returns c =
     let n = c.put_count-b.ensures in
     let e = c.put_byte.ensures in
     record {
-      out = refused-stored _ _ c.number.ensures w n.out e;
+      out = refused-stored _ _ refl w n.out e;
       most = omega (arith, w.next, n.most, e.next);
     }
